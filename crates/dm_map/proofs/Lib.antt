@@ -1,4 +1,4 @@
--- what crates above cite: they see no folder of a module that is private
+-- Modules of proofs that crates above import, since they can't see a folder of a private module.
 pub use Rattle.dm_map.proofs.own.ChunkOutcomes
 pub use Rattle.dm_map.proofs.own.CutLemmas
 pub use Rattle.dm_map.proofs.own.HaltedRequests

@@ -1,4 +1,4 @@
--- The words and lemmas that proofs cite, from one place.
+-- Names and lemmas that the proofs of dm_map import, gathered in one module.
 pub use Rattle.dm_map.specs.Prelude.{Agree, AreAdded, AreAsked, AreAskedOfOrigin, AreAskedOfSnapshot, AreBegunBy, AreExact, AreHanded, AreHomesFreeOfLevels, AreInChunk, AreInOwnSlots, AreInSnapshot, AreLosing, AreOwn, AreOwnChunks, AreReadAt, AreRuns, AreSettled, AreTables, AtError, AtLost, BlockUnit, CopyOf, Counts, Drops, Due, Empty, EndsHere, Fails, FillOf, Fits, Fork, GoOn, GoesOn, Ground, HasError, HasMarks, HasRoomFor, HaveSameData, Home, HomeStretch, IsAmple, IsAmpleTarget, IsAtLine, IsFirst, IsFirstHomes, IsFirstOf, IsFitting, IsFork, IsFreeOfLevels, IsGroundInStack, IsGroundNear, IsHanded, IsHome, IsIntact, IsLawful, IsLegOf, IsListSector, IsLongest, IsLosing, IsLostIn, IsMapped, IsNumber, IsOfSnapshot, IsOver, IsOwnWrite, IsRun, IsSide, IsSnapshotWritten, IsSpareSector, IsTakenAs, IsTrie, IsWalked, IsWay, IsWithinPlaces, Leads, Mapping, Marks, MeetsError, Node, Number, OfBeginning, PathStep, ReadAt, ReadOf, Rows, Run, SinkPast, StackState, State, Stays, Step, Stretch, Taken, TookOwn, Touches, Values, WalkerView, WriteOf, Zeros, and_then, answers, any_error, begins, below_step, below_unit, by_below, can_take, changes, chunk_at, chunk_count, content, copies, copy_to, count_of, disk_unit, due, due_at_line, due_at_target, due_over, end_of, first_of, first_rows, found_mapping, ground_unit, halted_state, halted_units, handed, has_place, has_room, home, home_in_store, is_error, is_fork, is_keeping, is_refused, is_same_path, is_same_step, is_settled, keep, legs_units, line_step, line_units, lost, next_at, next_unit, no_run, node, node_at, none_taken, nowhere, number_in, or_home, origin_at, origin_mapping, origin_of, origin_step, past-append, played_unit, put, range_mapping, range_step, read, read_below, read_numbered, read_over, read_stretches, reads_all, refuses, request_step, room_of, row, row_unit, run_at, run_count, runs_after, sector_after, sector_step, served_sector, served_step, slot_of, snapshot_at, snapshot_of, stack_state, start_state, state_of, state_past, steps, store_sector, store_writes, stored, stretches, take_chunk, taken_at, target_mapping, target_path, target_step, unit_at, unit_in_store, units_in, units_of, value_read, with_chunk, write, write_line, write_numbered, write_snapshot, write_target, write_to, zero_unit}
 unfoldable pub use Rattle.dm_map.specs.Prelude.{due_in, home_to, path, played, read_unit, rows_played, sector_past, serve, take_chunks, way, write_step}
 pub use Rattle.dm_stack.proofs.Apart.{IsNamed, IsVia, one_via, top_named}

@@ -1,5 +1,4 @@
--- Lemmas of what disks hold: where no claims meet, each top device has what it would have alone, or
--- errors.
+-- Lemmas of what disks hold: if no claims clash, each sector of a top device reads as it would on a disk of its own, or as an error.
 pub mod ChunkOutcomes
 pub mod CutLemmas
 pub mod DueChunks

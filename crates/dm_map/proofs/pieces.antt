@@ -1,2 +1,2 @@
--- Lemmas of pieces and of who takes them.
+-- Lemmas of pieces and of the sinks that receive them.
 pub mod LegUnits

@@ -1,5 +1,4 @@
--- Lemmas of states: numbers, runs and tries of taken chunks, tables, and what a sound stack says of the
--- devices that have them.
+-- Lemmas of states: numbers, runs and tries of taken chunks, tables, and what a sound stack says about their devices.
 pub mod ResolvedLines
 pub mod GrowLemmas
 pub mod Numbers

@@ -1,5 +1,4 @@
--- Lemmas of the way down: steps of sectors, lines, chunks and ranges, what a sink took of them, how
--- often lines were searched, and that the number of levels plays no part.
+-- Lemmas of the way down a stack: the steps of sectors, lines, chunks and ranges, what a sink received, how many searches were made, and that the limit on levels makes no difference.
 pub mod Bounds
 pub mod ChunkCopies
 pub mod ChunkTaking

@@ -1,4 +1,4 @@
--- The words of std and of the crates below that this crate cites, and its types, from one place.
+-- Names of std and of lower crates that the specs of dm_map import, gathered in one module.
 pub use Rattle.dm_map.specs.declared.pieces.piece.Piece.{Piece}
 pub use Rattle.dm_map.specs.declared.state.trie_taken.link.Node.{Node}
 pub use Rattle.dm_map.specs.declared.state.trie_taken.link.Node.TheVariants.{Empty, Fork, Number}

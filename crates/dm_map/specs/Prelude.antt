@@ -1,4 +1,4 @@
--- The words that contracts cite, here and in crates above, from one place.
+-- Names that contracts import, in dm_map and in the crates above it, gathered in one module.
 pub use Rattle.dm_map.specs.Base.{AllByRecursion, Description, Device, Disk, IfOk, IsLine, IsLineOf, IsSound, IsTidy, IsTop, List, None, OnOk, Read, Some, Write, [], allocated, binary_digits, device_len, false, is_none, is_ro_at, is_some, length, lower_len, metadata, min, nat_lt, not, place, replicate, stack_depth, true, ℕ}
 pub use Rattle.dm_map.specs.Mapper.{HasMapped, MapperView, OnSinkFault, with_looked}
 pub use Rattle.dm_map.specs.declared.pieces.piece.Piece.{Piece}

@@ -1,3 +1,3 @@
--- Laws with their proofs, for what can cite nothing but specs.
+-- Laws whose proofs are among the specs, for importers that can import nothing but specs.
 pub mod Contents
 pub mod PieceLists

@@ -1,5 +1,5 @@
--- The way down a stack: what a read or a write of sectors does, from device to device, and the code
--- that does it.
+-- The way down a stack: what a read or a write of sectors does on each device that it passes, and the
+-- code for it.
 pub mod Bound
 pub mod Chunk
 pub mod Home

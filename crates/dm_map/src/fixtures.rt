@@ -1,4 +1,5 @@
-//! Stacks for tests, what a mapper tells after a request, and how a chunk is taken that may be.
+//! Helpers for tests: stacks from texts, usage and counts after a request, and taking a chunk if possible.
+//! possible.
 
 use crate::mapper::Mapper;
 use crate::pieces::piece_list::PieceList;
@@ -10,15 +11,15 @@ use dm_table::{parse_disks, parse_request, parse_table};
 use std::alloc::Global;
 use std::process::Abort;
 
-/// The stack of a table and a disk list.
+/// Loads the stack of a table and a disk list, given as texts.
 pub(crate) fn stack_of(rt: &impl Abort, alloc: Global, table: &str, disks: &str) -> Stack {
     let devices = parse_table(alloc, table.as_bytes()).expect(rt, "devices");
     let disks = parse_disks(alloc, disks.as_bytes()).expect(rt, "disks");
     Stack::load(alloc, devices, disks).expect(rt, "a stack")
 }
 
-/// What a new mapper tells after a request: the usage of the first snapshot, if there is one, and
-/// after that the searches and comparisons of the request.
+/// Maps one request with a new mapper, and returns the usage of the first snapshot, if there is one, and then the
+/// request's searches and comparisons.
 pub(crate) fn told_after(
     rt: &impl Abort,
     alloc: Global,
@@ -41,7 +42,8 @@ pub(crate) fn told_after(
     (usage, (mapper.searches(), mapper.probes()))
 }
 
-/// Takes a chunk unless it was taken, and says whether it took it.
+/// Takes a chunk, unless it is taken already, no place is left or the snapshot is invalid; returns whether it
+/// took it.
 pub(crate) fn offer<T: Taken>(taken: &mut T, chunk: u64) -> bool {
     taken.is_valid() && !taken.is_full() && taken.offer(chunk)
 }

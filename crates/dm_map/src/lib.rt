@@ -1,10 +1,10 @@
-//! Mapping requests through a checked stack.
+//! Maps requests to devices of a checked stack, as reads and writes of disks.
 //!
-//! `specs/walk/Mapping.antt` defines what becomes of a request, sector by sector; the code hands it to
-//! a `Sink` in pieces.
+//! `specs/walk/Mapping.antt` defines what a request does with each sector; the code hands it to a `Sink` in
+//! pieces.
 //!
-//! `mapper` is what callers use. It walks down a stack (`walk`), in the state that earlier requests
-//! left (`state`), and hands over pieces (`pieces`). `own` has laws of what disks hold after that.
+//! Callers use `mapper`. It walks down a stack (`walk`), in the state that earlier requests left (`state`), and
+//! hands pieces to a sink (`pieces`). `own` states laws about what disks hold afterwards.
 #![tactic(auto)]
 
 #[cfg(test)]

@@ -1,8 +1,8 @@
-//! The mapper: hands the units of requests to a sink.
+//! The mapper, which turns a request into operations on disks and hands these to a sink.
 //!
-//! It finds lines through its looker alone and keeps no list, so a request takes no memory.
-//! `specs/walk/Mapping.antt` defines what becomes of a sector, `walk` cuts a range into pieces, and
-//! `walker` keeps what one request leaves for the next.
+//! The mapper looks up lines through its looker and keeps no list, so mapping a request allocates nothing.
+//! `specs/walk/Mapping.antt` defines what happens to each sector, `walk` cuts a range into pieces, and `walker`
+//! holds the state that one request leaves for the next.
 
 ghost use Rattle.dm_map.specs.Prelude.{false, true, is_none, length, nat_lt, IfOk, IfSome, Read, snapshots, IsSnapshot, stack_depth, lower_len, IsStore, request_step, no_counts, AreAdded, IsFitting, IsWithinPlaces, with_looked, HasMapped, read_stretches, lost, put, start_state, taken_at, with_chunk, number_in, device_len, IsFirstHomes, has_room, snapshot_at, usage_of, or_home, HasRoomFor, IsWalked, IsFirstRead, IsGroundNear, Device};
 ghost use Rattle.dm_map.specs.declared.mapper.MapFault.TheVariants.{Sink};
@@ -29,27 +29,27 @@ use thiserror::Error;
 #[cfg(test)]
 mod tests;
 
-/// Why a request was not mapped to its end.
+/// Why mapping a request stopped before its end.
 #[derive(Clone, Copy, Debug, PartialEq, Eq, Drop, Error)]
 #[error_bound(F: fmt::Display)]
 pub enum MapFault<F> {
-    /// The sink failed at a piece of this request.
+    /// The sink returned this fault for a piece of the request.
     #[error("the sink failed: {0}")]
     Sink(F),
-    /// A sink failed at an earlier request, so the mapper maps nothing more.
+    /// The sink failed during an earlier request, after which this mapper maps nothing more.
     #[error("stopped by an earlier fault")]
     Stopped,
 }
 
-/// Maps requests through the stack of its looker, one after the other. A clause sees its stack, the
-/// state that its requests left, whether one of its sinks failed, and the counts of its looker.
+/// Maps requests through a stack, one after the other. Contracts see its stack, the state that its requests left,
+/// whether a sink failed, and the counts of its looker.
 #[derive(Drop)]
 pub struct Mapper<'s, T: Taken> {
     walker: Walker<'s, T>,
     failed: bool,
-    /// The searches before the last request, of those that belong to one.
+    /// The searches made by requests before the last one.
     searches_before: u64,
-    /// The comparisons of these searches.
+    /// The comparisons made by requests before the last one.
     comparisons_before: u64,
 }
 
@@ -75,12 +75,12 @@ impl<'s, T: Taken> Model for Mapper<'s, T> {
 }
 
 impl<'s, T: Taken> Mapper<'s, T> {
-    /// A mapper of the looker's stack, in the state at the start, that has not failed. It makes at most one
-    /// line search for each snapshot.
+    /// Makes a mapper for the looker's stack, in the state before any request. This costs at most one line search
+    /// for each snapshot.
     ///
     /// # Errors
     ///
-    /// `AllocError` where it is out of memory for its state.
+    /// `AllocError` if there is not enough memory for the state.
     pub fn new(alloc: Global, mut looker: Looker<'s>) -> Result<Mapper<'s, T>, AllocError>
         ensures stack { IfOk result (λ mapper. mapper.stack ≡ looker.entry.stack) }
         ensures state { IfOk result (λ mapper. mapper.state ≡ start_state looker.entry.stack) }
@@ -101,21 +101,20 @@ impl<'s, T: Taken> Mapper<'s, T> {
         })
     }
 
-    /// Hands the units of a request for this device to the sink, in rising order of the sectors. A
-    /// request that passes the device's end fails as a whole.
+    /// Hands the operations for a request to this device to the sink, in rising order of sectors. If the request
+    /// passes the end of the device, all of its sectors fail.
     ///
-    /// The id belongs to the mapper's stack, which is also the sink's, and the sink has room for the
-    /// request. Each piece is a stretch of sectors whose path down stays in one line, and one chunk,
-    /// of each device, or in chunks of a snapshot that are read in a row. Cost of a read: at most as
-    /// many line searches as the stack is deep for each run of sectors with one path
-    /// (`specs/walk/Path`), however long, and at most 17 comparisons each; they are counted
-    /// (`searches`, `probes`). No memory is taken. Whatever comes of the request, no
-    /// snapshot has taken more chunks than its store has places.
+    /// The id must be one of the mapper's stack, which must also be the sink's, and the sink must have room for
+    /// the request's sectors. Each piece covers sectors whose path down stays in one line, and one chunk, of each
+    /// device; chunks of a snapshot that are read in a row may share a piece. A read costs at most as many line
+    /// searches as the stack is deep for each run of sectors with one path (`specs/walk/Path`), however long the
+    /// run, and at most 17 comparisons for each search; `searches` and `probes` return both counts. No memory is
+    /// allocated. Whatever the result, no snapshot holds more chunks than its store has room for.
     ///
     /// # Errors
     ///
-    /// `Sink` if the sink failed: it took a beginning of the units, and the mapper has failed from
-    /// then on. `Stopped` if the mapper had failed before: nothing changes.
+    /// `Sink` if the sink failed: it received a prefix of the operations, and the mapper maps nothing from then
+    /// on. `Stopped` if the sink failed during an earlier request: nothing changes.
     #[inline(always)]
     pub fn request<S: Sink>(
         &mut self,
@@ -136,12 +135,12 @@ impl<'s, T: Taken> Mapper<'s, T> {
         }
     }
 
-    /// As `request`, but where all sectors of the request lie in a row on a disk, below one line of its device,
-    /// nothing is handed over, and where they lie is returned: the caller does with them what the request asks.
+    /// Like `request`; but if all sectors of the request lie in a row on one disk, below one line of its device,
+    /// nothing is handed to the sink, and their place is returned: the caller reads or writes them there.
     ///
     /// # Errors
     ///
-    /// `Sink` if the sink failed, and `Stopped` if the mapper had failed before, as `request` says.
+    /// `Sink` if the sink failed, and `Stopped` if it failed during an earlier request, as in `request`.
     #[inline(always)]
     pub fn request_or_home<S: Sink>(
         &mut self,
@@ -175,9 +174,9 @@ impl<'s, T: Taken> Mapper<'s, T> {
         }
     }
 
-    /// A valid snapshot has taken a chunk, the next in the list of its store: for a state that no request
-    /// of this mapper left. Where it had taken the chunk, nothing changes, and `false` is returned. No memory
-    /// is taken. Cost: one look-up of the chunk.
+    /// Records that a valid snapshot's store holds this chunk, as the next in its list; used to restore a state
+    /// that no request of this mapper left. If the snapshot has the chunk already, nothing changes and `false` is
+    /// returned. No memory is allocated. Cost: one look-up of the chunk.
     pub fn restore(&mut self, device: DeviceId, chunk: u64) -> bool
         requires device { device < length self.old.stack.devices }
         requires valid { (taken_at self.old.state device).valid ≡ true }
@@ -192,7 +191,7 @@ impl<'s, T: Taken> Mapper<'s, T> {
         self.walker.offer(device, chunk)
     }
 
-    /// A snapshot is invalid from now on, as its store says. No memory is taken.
+    /// Marks a snapshot as invalid, because its store says so. No memory is allocated.
     pub fn lose(&mut self, device: DeviceId)
         requires { device < length self.old.stack.devices }
         ensures { self.new ≡ record self.old {
@@ -203,7 +202,7 @@ impl<'s, T: Taken> Mapper<'s, T> {
         self.walker.invalidate(device);
     }
 
-    /// What a snapshot took. No memory is taken.
+    /// Returns the chunks that a snapshot's store holds, and whether it is valid. No memory is allocated.
     pub fn taken(&self, device: DeviceId) -> &T
         requires { device < length self.now.stack.devices }
         ensures chunks { T.chunks result.now ≡ (taken_at self.now.state device).chunks }
@@ -212,8 +211,8 @@ impl<'s, T: Taken> Mapper<'s, T> {
         self.walker.taken(device)
     }
 
-    /// Where the first sectors of a range of a store lie: in a row on a disk. The look-ups belong to no
-    /// request. No memory is taken.
+    /// Finds where the first sectors of a range of a store lie in a row on a disk. The look-ups are counted to no
+    /// request. No memory is allocated.
     pub fn first_homes(&mut self, store: Lower, sector: u64, len: u64) -> HomeStretch
         requires some { 1 ≤ len }
         requires inside { sector + len ≤ lower_len self.old.stack store }
@@ -232,8 +231,8 @@ impl<'s, T: Taken> Mapper<'s, T> {
         stretch
     }
 
-    /// What the first sectors of a range of a device are read from, in the state that the requests left. The
-    /// look-ups belong to no request. No memory is taken. Cost: one look-up for each level.
+    /// Finds where the first sectors of a range of a device are read from, in the state that the requests left.
+    /// The look-ups are counted to no request. No memory is allocated. Cost: one look-up for each level.
     pub fn first_read(&mut self, device: DeviceId, sector: u64, len: u64) -> Stretch
         requires some { 1 ≤ len }
         requires device { device < length self.old.stack.devices }
@@ -251,7 +250,7 @@ impl<'s, T: Taken> Mapper<'s, T> {
         stretch
     }
 
-    /// Recalls that no snapshot took more chunks than its store has places, so that the stack can be in this state.
+    /// Proves that no snapshot took more chunks than its store has room for, so the stack can be in this state.
     pub fn recall_places(&self)
         ensures within { IsWithinPlaces self.now.stack self.now.state }
         ensures fits { IsFitting self.now.stack self.now.state }
@@ -259,7 +258,7 @@ impl<'s, T: Taken> Mapper<'s, T> {
         self.walker.recall_places();
     }
 
-    /// The sink failed: nothing more is mapped.
+    /// Marks the mapper as failed, so that it maps nothing more, and returns the sink's fault.
     fn stop<F>(&mut self, fault: F) -> MapFault<F>
         ensures fault { result ≡ Sink fault }
         ensures failed { self.new ≡ record self.old { failed = true } }
@@ -268,20 +267,20 @@ impl<'s, T: Taken> Mapper<'s, T> {
         MapFault::Sink(fault)
     }
 
-    /// Reads what a look-up of a chunk of a snapshot reads first, so that it is in the cache by then.
+    /// Reads the memory that a look-up of this chunk of a snapshot starts with, so that it is in the cache by
+    /// then.
     ///
-    /// It says nothing of the chunk, and counts as no search. What it read is returned, since a read of which
-    /// nothing comes is left out. No memory is taken. Cost: that of two reads.
+    /// The look-up itself is not made, and no search is counted. The value read is returned only to keep the
+    /// compiler from dropping the read. No memory is allocated. Cost: two memory reads.
     #[inline(always)]
     pub fn prefetch(&self, device: DeviceId, chunk: u64) -> u64 {
         self.walker.prefetch(device, chunk)
     }
 
-    /// How much of the store of a snapshot is used, and whether the snapshot is valid.
+    /// Returns how much of a snapshot's store is used, and whether the snapshot is valid.
     ///
-    /// The device is a snapshot of the mapper's stack. No snapshot has taken more chunks than its store has
-    /// places, also where the mapper has failed. Cost: one look-up, which belongs to no request. No memory
-    /// is taken.
+    /// The device must be a snapshot of the mapper's stack. No snapshot holds more chunks than its store has room
+    /// for, even after a failure. Cost: one look-up, which is counted to no request. No memory is allocated.
     pub fn usage(&mut self, device: DeviceId) -> Usage
         requires { IsSnapshot self.old.stack device }
         ensures usage { IfSome (snapshot_at self.old.stack device)
@@ -295,23 +294,23 @@ impl<'s, T: Taken> Mapper<'s, T> {
         let searches = self.walker.searches();
         let comparisons = self.walker.comparisons();
         let usage = usage_of(&mut self.walker, device);
-        // They belong to no request, so they come before the last one.
+        // Count these look-ups to the time before the last request, since they belong to none.
         self.searches_before += self.walker.searches() - searches;
         self.comparisons_before += self.walker.comparisons() - comparisons;
         usage
     }
 
-    /// The line searches of the last request that was not answered `Stopped`, 0 before the first: what
-    /// its looker's count grew by, which stays at the greatest number once there. A line search is one
-    /// look-up, in the table of one device, of the line that holds a sector. No memory is taken.
+    /// Returns how many line searches the last request made that was not answered `Stopped`; 0 before the first
+    /// request. A line search looks up, in the table of one device, the line that holds a sector. The looker's
+    /// count stays at `u64::MAX` once it gets there. No memory is allocated.
     pub fn searches(&self) -> u64
         ensures { result ≡ self.now.last.searches }
     {
         self.walker.searches() - self.searches_before
     }
 
-    /// How often these searches compared a line's start with a sector, at most 17 times each. No memory
-    /// is taken.
+    /// Returns how often the searches of the last request compared a line's start with a sector, at most 17 times
+    /// per search. No memory is allocated.
     pub fn probes(&self) -> u64
         ensures { result ≡ self.now.last.comparisons }
     {
@@ -319,8 +318,8 @@ impl<'s, T: Taken> Mapper<'s, T> {
     }
 }
 
-/// Hands over the units of a request, or returns where they lie. The fields are passed one by one: that keeps
-/// them in registers.
+/// Hands over the operations of a request, or returns where its sectors lie in a row on one disk. The request's
+/// fields are separate parameters so that they stay in registers.
 #[inline(always)]
 fn pieces_or_home<S: Sink, T: Taken>(
     walker: &mut Walker<'_, T>,
@@ -346,7 +345,7 @@ fn pieces_or_home<S: Sink, T: Taken>(
     map_top(walker, op, device, start, len, sink)
 }
 
-/// Whether sectors pass the end of a device.
+/// Whether a range of sectors passes the end of a device.
 fn passes_end(start: u64, len: u64, end: u64) -> bool
     ensures { result ≡ nat_lt end (start + len) }
 {

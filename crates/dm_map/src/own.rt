@@ -1,5 +1,4 @@
-//! What disks hold after requests, the laws that each top device is like a disk of its own, and those
-//! of errors.
+//! What disks hold after requests: laws that each top device is like a disk of its own, and laws of read errors.
 
 pub(crate) mod cuts;
 pub(crate) mod errors;

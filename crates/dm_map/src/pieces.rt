@@ -1,5 +1,5 @@
-//! What becomes of the sectors of a request, in units and in pieces that are short for them, and
-//! who takes the pieces.
+//! The operations that a request becomes, sector by sector (units) and as ranges (pieces), and the sink that the
+//! pieces are handed to.
 
 pub(crate) mod discard;
 pub(crate) mod piece;

@@ -1,20 +1,20 @@
-//! Whether there is room for the stack that a program takes which maps requests.
+//! A check that the process has enough stack memory for programs that map requests.
 //!
-//! A stack that is too small ends a program by a signal, wherever it then is. So the kernel's own table of
-//! limits is read before anything else is done. An address space that ends sooner doesn't stand there.
+//! A program that runs out of stack is killed by a signal, at any point. So the kernel's table of limits for the
+//! process is read before anything else. A smaller limit on the address space isn't noticed.
 
 use std::fs::File;
 use std::io::Read;
 
-/// The least limit of the stack, in bytes. The deepest stack of devices takes 225 KiB, and where the limit
-/// is low the words and the environment, which are on the stack too, have up to 128 KiB.
+/// The smallest limit on the stack that is enough, in bytes. The deepest stack of devices needs 225 KiB, and
+/// arguments and environment, which are on the stack too, have up to 128 KiB if the limit is low.
 const LEAST_STACK: u64 = 524_288;
 
-/// The limits of this process, a line each: see `proc_pid_limits(5)`.
+/// The file with the limits of this process, one to a line: see `proc_pid_limits(5)`.
 const LIMITS: &str = "/proc/self/limits";
 
-/// Whether the limit of the stack is at least 512 KiB, as a stack of devices at the limit of depth asks for, or
-/// can't be told. Programs ask before they do anything else.
+/// Whether the limit on the stack is at least 512 KiB, which devices at the limit of depth need; also true if the
+/// limit can't be found out. Programs call this before they do anything else.
 #[inline(never)]
 pub fn has_stack_room(rt: &HostRuntime) -> bool {
     match stack_limit(rt) {
@@ -23,8 +23,8 @@ pub fn has_stack_room(rt: &HostRuntime) -> bool {
     }
 }
 
-/// The limit of the stack, in bytes. There is none where the kernel's table can't be read, or says that the
-/// stack is unlimited.
+/// Reads the limit on the stack, in bytes, from the kernel's table. None if the table can't be read or the stack
+/// is unlimited.
 fn stack_limit(rt: &HostRuntime) -> Option<u64> {
     let mut table = [0; 2048];
     let mut file = File::open(rt, LIMITS).ok()?;

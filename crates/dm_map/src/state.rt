@@ -1,5 +1,5 @@
-//! What requests leave for later ones: the chunks that each snapshot took, how these are kept, and
-//! how much of its store they use.
+//! The state that requests leave to later ones: which chunks each snapshot's store holds, how a program keeps
+//! that, and how much of each store is used.
 
 pub(crate) mod plain_taken;
 pub(crate) mod run_taken;

@@ -1,4 +1,4 @@
--- In a sound stack a device is one deeper than the deepest of what it names.
+-- In a sound stack a device is one deeper than the deepest device or disk that it names.
 use Rattle.dm_stack.proofs.Prelude.{ℕ, zero, suc, Bool, false, List, [], Some, arith, refl, ap, ◌∙◌, length, map, max, nat_lt, slice_get, option_map, flat_map, ltb-false, flat_map-append, get_or_from_slice_get, slice_get-map, LoadKind, Deep, DevRef, DeviceSpec, Line, Span, spans, Description, device_links, links, lower_of, ref_link, greatest, links_of, IsDeeperByOne, lower_depth, IsSound, depth_of, faults_by_id, line_links, cond_none}
 use Rattle.dm_table.specs.declared.tables.table.DevRef.TheVariants as refs
 use Rattle.dm_stack.proofs.checks.DepthLemmas.{depth_to-deeper}
@@ -22,7 +22,7 @@ shallow_device stack device sound within =
     let here : 0 + device ≡ device = omega arith in
     ltb-false 32 (depth_of stack device) (rw here at (none_at Deep (λ id. nat_lt 32 (depth_of stack id)) 0 device stack.devices (passes_all stack sound).shallow within))
 
--- What a device names, by ids and as devices and disks
+-- What a device names: as ids of devices, and as devices and disks
 
 span_depth : (stack : Description) (to : DevRef) (ids : List ℕ) → greatest (map (depth_of stack) (ref_link stack to ++ ids)) ≡ max (lower_depth stack (lower_of stack to)) (greatest (map (depth_of stack) ids))
 span_depth stack (refs.Device name) ids = refl

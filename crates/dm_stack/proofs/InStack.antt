@@ -1,11 +1,11 @@
--- What has a sector is a device or a disk of the stack, and none is longer than a line may be.
+-- A device or disk with a sector is one of the stack, and no device or disk is longer than the limit.
 use Rattle.dm_stack.proofs.Prelude.{ℕ, inl, inr, Option, Some, None, length, refl, arith, slice_get, cases_lt, option_map_or, slice_get_past, Lower, Description, device_len, disk_len, lower_len, IsSound}
 use Rattle.dm_table.specs.declared.tables.disk.Disk.{Disk}
 use Rattle.dm_stack.specs.declared.id.Lower.TheVariants as lowers
 use Rattle.dm_stack.proofs.SoundLines.{device_small, disk_small}
 use Rattle.std.specs.Prelude.{◌≡◌, ◌^◌, ◌<◌, ◌≤◌}
 
--- a device that has a sector is one of the stack
+-- a device that has a sector is one of the stack's
 pub device_there : (stack : Description) (device sector : ℕ) → sector < device_len stack device → device < length stack.devices
 device_there stack device sector inside =
     elim (cases_lt device (length stack.devices)) [
@@ -13,7 +13,7 @@ device_there stack device sector inside =
       | inr past ↦ absurd (let none : device_len stack device ≡ 0 = rw (slice_get_past stack.devices device past) in omega arith)
     ]
 
--- and so is a disk
+-- a disk that has a sector is one of the stack's
 pub disk_there : (stack : Description) (disk sector : ℕ) → sector < disk_len stack disk → disk < length stack.disks
 disk_there stack disk sector inside =
     elim (cases_lt disk (length stack.disks)) [
@@ -21,7 +21,7 @@ disk_there stack disk sector inside =
       | inr past ↦ absurd (let none : disk_len stack disk ≡ 0 = rw slice_get_past in omega arith)
     ]
 
--- nothing is longer than a line may be
+-- no device or disk is longer than the limit on lengths
 
 disk_within : (stack : Description) (id : ℕ) (disk : Option Disk) → IsSound stack → slice_get stack.disks id ≡ disk → option_map_or (λ (it : Disk). it.len) disk 0 ≤ 2 ^ 50
 disk_within stack id None sound at = omega arith

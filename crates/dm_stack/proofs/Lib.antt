@@ -3,7 +3,7 @@ pub mod InStack
 pub mod ReportLemmas
 pub mod SnapshotRule
 pub mod SoundLines
--- what crates above cite: they see no folder of a module that is private
+-- Modules of proofs that crates above import, since they can't see a folder of a private module.
 pub use Rattle.dm_stack.proofs.checks.ChunkLemmas
 pub use Rattle.dm_stack.proofs.checks.DepthLemmas
 pub use Rattle.dm_stack.proofs.checks.HandedOn

@@ -1,4 +1,4 @@
--- The words and lemmas that proofs cite, from one place.
+-- Names and lemmas that the proofs of dm_stack import, gathered in one module.
 pub use Rattle.dm_stack.specs.Prelude.{AreFirst, AreFirsts, AreInside, AreLeft, AreOnDisks, ArePlaces, AreSnapshots, AreStripes, AreTops, Below, Beneath, Claim, Clash, Description, Device, Disk, Early, EndsAreSmall, EndsAt, GoesOn, HasGoodChunk, HasNoCycle, HasSector, HasSectors, HaveGoodChunks, HaveSmallEnds, IsBeneath, IsClash, IsClosed, IsCounted, IsDeeperByOne, IsError, IsFirstClash, IsFirstCycle, IsFirstRing, IsKeyOf, IsLast, IsLeg, IsLineOf, IsLower, IsOriginSound, IsPath, IsPlaceOf, IsRefusedBy, IsReport, IsSnapshot, IsSnapshotOf, IsSnapshotSound, IsSound, IsStartOf, IsStripePosition, IsTargetSound, IsThere, IsTidy, IsTop, IsVisited, IsZero, Late, Leg, LegsView, Lies, LiesIn, LiesOnDisk, Lower, MeetAt, Names, NeverMeet, Numbered, OnCycle, Reaches, ResolvedColumn, ResolvedDevice, ResolvedLine, ResolvedOver, ResolvedSnapshot, ResolvedTarget, SaysTidiness, StartsAfter, StartsBy, StripePosition, Visits, WithBefore, after_leg, all_lines, all_places, allocated, bad_snapshots_in, below_column, below_plain, below_stripes, binary_digits, checks_after, checks_before, chunk_at, claims, clash_of, clash_with, column_of, crowded, deep, depth_of, depth_over, depths_to, described, device_claims, device_faults, device_len, device_links, device_over, digits_to, disk_len, empty, empty_in, end_of, faults_by_id, found_at, greatest, has_bad_store, has_bad_stripes, has_crowd, has_deep_store, has_disk_columns, has_pair, has_snapshot, has_state, held_end, holds, in_column, is_bad_chunk, is_bad_snapshot, is_bad_stripe, is_device, is_disk, is_far, is_large, is_metadata, is_misplaced, is_missing, is_named, is_past, is_plain, is_repeated, is_ro_at, is_same, is_same_lower, is_shallow, is_snapshot, is_tidy_to, is_unknown, is_unknown_path, is_unknown_ref, is_whole, line_claims, line_faults, line_links, line_names, line_of, lines_at, lines_or_none, links, links_in, links_of, lower_depth, lower_len, lower_link, lower_of, lower_text, may_share, may_store, meets, metadata, misplaced, misplaced_in, misplaced_kind, names_in, names_missing, no_bad_lines, no_reach, noted_device, noted_devices, noted_line, noted_lines, numbered, or_bad, over_of, own_end, passes, passes_end, past, place, place_count, places_in, places_of, range, reach_at, reach_meets, reach_next, reach_of, reach_with, ref_link, report_text, resolved_columns, resolved_device, resolved_line, resolved_lines, resolved_snapshot, resolved_target, rival_end, rivals, snapshot, snapshots, span_claim, span_end, stack_depth, store, store_links, store_links_at, store_links_of, stripe, target_places, target_spans, tidiness_text, too_large, too_many, twice, twice_in, unknown, unvisited, with_before, without_lines}
 unfoldable pub use Rattle.dm_stack.specs.Prelude.{all_over, copied, depth_to, is_store_to, origin_over, snapshots_over}
 pub use Rattle.dm_table.proofs.FaultLemmas.{cond_none, first_fault-none, first_or-found, first_or-none, first_or-passed, unless-ok}

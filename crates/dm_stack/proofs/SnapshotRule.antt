@@ -1,4 +1,4 @@
--- In a sound stack the snapshots are the devices whose first sector lies in a snapshot's line, and that line is all of them.
+-- In a sound stack the snapshots are the devices whose first sector is on a snapshot line, which covers all of the device.
 use Rattle.dm_stack.proofs.Prelude.{ℕ, Bool, true, false, cond, not, inl, inr, List, [], Some, arith, refl, sym, ap, subst, ◌∙◌, get_or, length, find, option_map, AllByRecursion, range_with_len, or-false, cases_lt, eqb-true, not-false, or_cases, or_left, or_parts, or_right, filter_passes, slice_get_past, Line, Target, ResolvedLine, ResolvedSnapshot, found_at, resolved_line, resolved_target, holds, line_of, Description, device_len, end_of, lines_at, lower_len, lower_of, AreSnapshots, IsSnapshot, has_snapshot, is_snapshot, snapshots, resolved_snapshot, IsSound, is_bad_chunk, is_bad_snapshot}
 use Rattle.dm_table.specs.declared.tables.table.Target.TheVariants as targets
 use Rattle.dm_stack.specs.declared.lines.resolved_line.ResolvedTarget.TheVariants as found
@@ -7,7 +7,7 @@ use Rattle.dm_stack.proofs.lines.Members.{in_range, kept}
 use Rattle.dm_stack.proofs.SoundLines.{device_some, device_sound, holds_from, lines_there, there}
 use Rattle.std.specs.Prelude.{◌≡◌, ◌+◌, ◌<◌, ◌∷◌, ◌==◌, ◌||◌}
 
--- A device with a snapshot's line has no other
+-- A device with a snapshot line has no other line
 
 one_by : (stack : Description) (lines len : ℕ) (target : Target) → is_bad_snapshot stack lines len target ≡ false → is_snapshot target ≡ true → lines ≡ 1
 one_by stack lines len (targets.Snapshot origin store kind chunk) good is =
@@ -21,7 +21,7 @@ one_of stack count (line ∷ lines) good is = elim (or_cases (is_snapshot line.t
   | inr later ↦ one_of stack count lines good.1 later
 ]
 
--- the target of a snapshot's line, by ids
+-- with ids in place of names, the target is still a snapshot
 pub record IsOver (stack : Description) (target : Target) : Type 0 where
   pub snapshot : ResolvedSnapshot
   pub is : resolved_target stack target ≡ found.Snapshot snapshot
@@ -30,7 +30,7 @@ over : (stack : Description) (target : Target) → is_snapshot target ≡ true �
 over stack (targets.Snapshot origin store kind chunk) is = record { snapshot = resolved_snapshot stack origin store kind chunk; is = refl }
 over stack _ is = absurd cc
 
--- the only line of a device
+-- these lines are a single one
 pub record IsOnly (lines : List Line) : Type 0 where
   pub line : Line
   pub is : lines ≡ line ∷ []
@@ -44,7 +44,7 @@ alone (line ∷ next ∷ lines) one is = absurd (omega (arith, one))
 line_from : (line : Line) → 0 < line.len → line.start ≡ 0 → line_of (line ∷ []) 0 ≡ Some line
 line_from line some from = let here = holds_from line 0 (omega (arith, from)) (omega (arith, some)) in rw here
 
--- the line of a snapshot: it is all of its device
+-- the device has a single line, a snapshot that covers all of it
 pub record IsSnapshotLine (stack : Description) (device : ℕ) : Type 0 where
   pub line : Line
   pub only : lines_at stack device ≡ line ∷ []
@@ -84,7 +84,7 @@ each_snapshot stack sound device within is =
       line = rw (← target.is) line.at;
     }
 
--- A device whose first sector lies in a snapshot's line has one
+-- A device whose first sector is on a snapshot line has such a line in its table
 
 target_over : (stack : Description) (target : Target) (snapshot : ResolvedSnapshot) → resolved_target stack target ≡ found.Snapshot snapshot → is_snapshot target ≡ true
 target_over stack (targets.Snapshot origin store kind chunk) snapshot is = refl

@@ -1,4 +1,4 @@
--- What a sound stack says of its devices, of its disks, and of the line of a sector.
+-- What a sound stack says about its devices, its disks, and the line that holds a sector.
 use Rattle.dm_stack.proofs.Prelude.{ℕ, zero, suc, Bool, true, false, nat_lt, nat_le, List, [], length, map, Some, refl, sym, ap, subst, ◌∙◌, arith, not, find, position, slice_get, AllByRecursion, flat_map, list_any, position_or_len, and_parts, or_parts, leb-true, le-leb, ltb-true, ltb-false, lt-ltb, eqb-true, not-false, length-map, find_at, passes_at_first, get_or_from_slice_get, slice_get_within, div-add-mod, mul_comm, DevRef, StoreKind, Target, Line, Own, DeviceSpec, Limit, Empty, Stripe, Range, Snapshot, Store, column_span, Lower, ResolvedLine, Description, lines_at, lines_or_none, end_of, device_len, lower_len, lower_of, holds, line_of, resolved_line, resolved_columns, resolved_target, found_at, LiesIn, AreStripes, IsOriginSound, IsSnapshotSound, IsTargetSound, copied, has_crowd, is_whole, origin_over, resolved_snapshot, snapshots_over, all_lines, is_large, without_lines, empty_in, misplaced_in, is_bad_chunk, is_bad_snapshot, is_bad_stripe, has_bad_store, has_bad_stripes, bad_snapshots_in, IsSound, passes_end, all_parts, append-nil_both, at_index}
 use Rattle.dm_table.specs.declared.tables.table.Column.{Column}
 use Rattle.dm_table.specs.declared.tables.disk.Disk.{Disk}
@@ -13,7 +13,7 @@ use Rattle.dm_stack.proofs.lines.Members.{found_there, only}
 use Rattle.dm_stack.proofs.checks.Passes.{faults_by_none, passes_all}
 use Rattle.std.specs.Prelude.{◌≡◌, ◌+◌, ◌*◌, ◌^◌, ◌<◌, ◌≤◌, ◌∷◌, ◌/◌, ◌%◌, ◌==◌, ◌&&◌, ◌||◌}
 
--- A search in a list, and in what its elements become
+-- Searching a list, and searching the list of its images
 
 pub position_or_len-map : {X Y : Type 0} (f : X → Y) (test : Y → Bool) (xs : List X) → position_or_len test (map f xs) ≡ position_or_len (λ x. test (f x)) xs
 position_or_len-map f test [] = refl
@@ -22,7 +22,7 @@ position_or_len-map f test (x ∷ xs) = rw (position_or_len-map f test xs)
 pub position-map : {X Y : Type 0} (f : X → Y) (test : Y → Bool) (xs : List X) → position test (map f xs) ≡ position (λ x. test (f x)) xs
 position-map f test xs = rw (position_or_len-map f test xs, length-map xs f)
 
--- what a search found passes its test, and shares what all elements have
+-- an element that a search finds passes the test, and has the property that all elements have
 pub found : {X : Type 0} (P : X → Type 0) (test : X → Bool) (xs : List X) (x : X) → AllByRecursion P xs → find test xs ≡ Some x → (test x ≡ true) × P x
 found P test xs x h e =
     let at = sym (find_at test xs) ∙ e in
@@ -31,7 +31,7 @@ found P test xs x h e =
 
 -- Lines that start where the one before ends
 
--- one of them holds each sector before the end of the last
+-- one of these lines holds the sector
 pub record IsHeld (lines : List Line) (sector : ℕ) : Type 0 where
   pub line : Line
   pub is : line_of lines sector ≡ Some line
@@ -62,7 +62,7 @@ of_device P (first ∷ devices) zero device h e =
     rw (← same) (all_parts P first.lines (all_lines devices) h).0
 of_device P (first ∷ devices) (suc id) device h e = of_device P devices id device (all_parts P first.lines (all_lines devices) h).1 e
 
--- Targets within what they name
+-- Targets that don't pass the end of what they name
 
 pub positive : (n : ℕ) → (n == 0) ≡ false → 0 < n
 positive n e = grind (arith, e)
@@ -98,7 +98,7 @@ stripes_sound stack len chunk columns good inside =
       inside = columns_inside stack (len / length columns) columns inside;
     }
 
--- a line that is the whole of its device
+-- the line is the whole of its device
 pub record IsWhole (stack : Description) (id : ℕ) (line : Line) : Type 0 where
   pub from : line.start ≡ 0
   pub len : line.len ≡ device_len stack id
@@ -119,7 +119,7 @@ snapshot_sound stack id lines line origin store kind chunk whole good stored =
       store = not-false _ stored;
     }
 
--- no line that has to be alone has another one beside it
+-- in a table of several lines, no line is a snapshot or an origin
 one_alone : (stack : Description) (count len : ℕ) (target : Target) → (count == 1) ≡ false → is_bad_snapshot stack count len target ≡ false → is_whole target ≡ false
 one_alone stack count len (targets.Snapshot origin store kind chunk) many good = absurd cc
 one_alone stack count len (targets.Origin origin) many good = absurd cc
@@ -151,7 +151,7 @@ origin_sound stack id lines line origin sound whole good =
     let alone = whole (eqb-true _ _ (not-false _ a.0)) in
     record { from = alone.from; whole = alone.len; same = sym (eqb-true _ _ (not-false _ a.1)); over = over_is stack (lower_of stack origin) sound }
 
--- a line of one row of sectors: they are there
+-- for a linear line or a column, the device or disk below has all the sectors
 row_sound : (stack : Description) (to : DevRef) (offset len : ℕ) → list_any (is_past stack) (record { to = to; offset = offset; len = Some len; kind = Own } ∷ []) ≡ false → offset + len ≤ lower_len stack (lower_of stack to)
 row_sound stack to offset len inside = ltb-false _ _ (or_parts (is_past stack (record { to = to; offset = offset; len = Some len; kind = Own })) false inside).0
 
@@ -162,9 +162,9 @@ target_sound stack id lines line (targets.Snapshot origin store kind chunk) soun
 target_sound stack id lines line (targets.Origin origin) sound whole good inside fitting stored = origin_sound stack id lines line origin sound whole fitting
 target_sound stack id lines line _ sound whole good inside fitting stored = search row_sound
 
--- The line of a sector of a sound stack
+-- The line of a sector in a sound stack
 
--- what the checks say of the lines of a device
+-- what the checks of a load say about one device and its lines
 pub record IsDeviceSound (stack : Description) (device : DeviceSpec) : Type 0 where
   pub small : AllByRecursion (λ line. is_large line ≡ false) device.lines
   pub striped : AllByRecursion (λ line. has_bad_stripes line line.target ≡ false) device.lines
@@ -193,7 +193,7 @@ device_sound stack id device sound at =
       placed = in_row device.lines (part_of (λ d. misplaced_in d.lines) stack.devices id device p.placed at);
     }
 
--- a device is there where its id is below the count
+-- the list has an element with this id
 pub record IsThere {X : Type 0} (xs : List X) (id : ℕ) : Type 0 where
   pub it : X
   pub at : slice_get xs id ≡ Some it
@@ -206,7 +206,7 @@ there (x ∷ xs) (suc id) within = let rest = there xs id (omega (arith, within)
 pub lines_there : (stack : Description) (id : ℕ) (device : DeviceSpec) → slice_get stack.devices id ≡ Some device → lines_at stack id ≡ device.lines
 lines_there stack id device at = ap lines_or_none at
 
--- the only line of a device is all of it
+-- a device's only line is the one that a search finds
 alone : (test : Line → Bool) (lines : List Line) (line : Line) → find test lines ≡ Some line → length lines ≡ 1 → lines ≡ line ∷ []
 alone test (first ∷ []) line e one = ap (λ (l : Line). l ∷ []) (only line first (found_there test (first ∷ []) line e).0)
 alone test lines line e one = absurd (omega (arith, one))
@@ -217,14 +217,14 @@ whole_line stack id lines line are row only =
     let end : device_len stack id ≡ line.start + line.len = ap end_of (are ∙ only) in
     record { from = start; len = omega (arith, start, end) }
 
--- a line that has a sector, and is sound
+-- the line holds the sector, and its target is sound
 pub record HoldsSoundly (stack : Description) (device : ℕ) (line : ResolvedLine) (sector : ℕ) : Type 0 where
   pub from : line.start ≤ sector
   pub before : sector < line.start + line.len
   pub small : line.start + line.len ≤ MOST_LENGTH
   pub target : IsTargetSound stack device line.start line.len line.target
 
--- the line that a search finds is that of the sector, and sound
+-- a search finds a sound line that holds the sector
 pub record IsFound (stack : Description) (id sector : ℕ) : Type 0 where
   pub line : ResolvedLine
   pub is : found_at stack id sector ≡ Some line

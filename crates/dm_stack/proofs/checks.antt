@@ -1,4 +1,4 @@
--- Of the checks of a load: what each passes, and the first fault.
+-- Lemmas of the checks of a load: what each of them passes, and its first fault.
 pub mod BadLineLemmas
 pub mod ChunkLemmas
 pub mod CrowdLemmas

@@ -1,4 +1,4 @@
--- Of claims: which of them meet, and the devices that none is on.
+-- Lemmas of claims: which of them clash, and the devices that nothing claims.
 pub mod Apart
 pub mod MeetLemmas
 pub mod PairLemmas

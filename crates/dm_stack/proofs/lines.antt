@@ -1,5 +1,4 @@
--- Of lines: how they are found, their spans, stripes and legs, the places of stores, and the snapshots
--- of an origin.
+-- Lemmas of lines: finding them, their spans, stripes and legs, the layout of stores, and the snapshots of an origin.
 pub mod BucketLemmas
 pub mod ByDevice
 pub mod ChunkSizes

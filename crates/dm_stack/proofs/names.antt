@@ -1,3 +1,3 @@
--- Of names: their keys, and where they stand.
+-- Lemmas of names: their keys, and their indexes in lists.
 pub mod KeyLemmas
 pub mod NameLemmas

@@ -1,4 +1,4 @@
--- What a stack is, for every definition: its devices with their lines, and its disks, by their indexes in the lists.
+-- A stack's devices with their lines, and its disks. Definitions name both by id, the index in its list.
 use Rattle.dm_stack.specs.Base.{ℕ, Bool, false, List, [], Option, Some, None, map, nat_eq, slice_get, flat_map, position_or_len, option_map_or, pointwise, DevRef, Line, DeviceSpec, spans}
 use Rattle.dm_table.specs.declared.tables.disk.Disk.{Disk}
 use Rattle.dm_table.specs.declared.tables.table.DevRef.TheVariants as refs
@@ -6,51 +6,51 @@ use Rattle.dm_stack.specs.declared.id.Lower.{Lower}
 use Rattle.dm_stack.specs.declared.id.Lower.TheVariants as lowers
 use Rattle.std.specs.Prelude.{◌+◌, ◌==◌, ◌∷◌}
 
--- the devices of one list, and the disks of the other
+-- a stack as it is described: the list of its devices with their tables, and the list of its disks
 pub record Description : Type 0 where
   pub devices : List DeviceSpec
   pub disks : List Disk
 
--- the description that two lists make
+-- the description with these devices and disks
 abbrev pub described : List DeviceSpec → List Disk → Description
 described devices disks = record { devices = devices; disks = disks }
 
--- two texts are the same
+-- two texts have the same bytes
 abbrev pub is_same : List ℕ → List ℕ → Bool
 is_same = pointwise nat_eq
 
--- the id of a name: the index of the first of that name, or the number of them where none has it
+-- the id of the first device with this name, or the number of devices if none has it
 abbrev pub device_id : Description → List ℕ → ℕ
 device_id stack name = position_or_len (λ device. is_same device.name name) stack.devices
 
--- the id of the disk of this name, or one past the last
+-- the id of the first disk with this name, or the number of disks if none has it
 abbrev pub disk_id : Description → List ℕ → ℕ
 disk_id stack name = position_or_len (λ disk. is_same disk.name name) stack.disks
 
--- what a line names, by its id
+-- the device or disk that a line refers to, by its id
 abbrev pub lower_of : Description → DevRef → Lower
 lower_of stack (refs.Device name) = lowers.Device (device_id stack name)
 lower_of stack (refs.Disk name) = lowers.Disk (disk_id stack name)
 
--- whether two ids are of the same device, or of the same disk
+-- both are the same device, or both the same disk
 abbrev pub is_same_lower : Lower → Lower → Bool
 is_same_lower (lowers.Device one) (lowers.Device other) = one == other
 is_same_lower (lowers.Device one) (lowers.Disk other) = false
 is_same_lower (lowers.Disk one) (lowers.Device other) = false
 is_same_lower (lowers.Disk one) (lowers.Disk other) = one == other
 
--- a device ends where its last line does
+-- the sector after the last one of a device with these lines: the end of its last line
 abbrev pub end_of : List Line → ℕ
 end_of [] = 0
 end_of (line ∷ []) = line.start + line.len
 end_of (line ∷ next ∷ lines) = end_of (next ∷ lines)
 
--- the lines of a device that may be missing
+-- the lines of a device, or none if there is no device
 abbrev pub lines_or_none : Option DeviceSpec → List Line
 lines_or_none (Some device) = device.lines
 lines_or_none None = []
 
--- names, the lines of a device, whether it is read-only, and lengths in sectors, by ids: empty, false or 0 where nothing has the id
+-- the name of the device with this id, or an empty one if the stack has no such device
 abbrev pub name_at : Description → ℕ → List ℕ
 name_at stack device = option_map_or (λ it. it.name) (slice_get stack.devices device) []
 
@@ -73,19 +73,19 @@ abbrev pub lower_len : Description → Lower → ℕ
 lower_len stack (lowers.Device device) = device_len stack device
 lower_len stack (lowers.Disk disk) = disk_len stack disk
 
--- the devices among what is named, by their ids
+-- the id of the device that a reference names; nothing for a disk
 abbrev pub ref_link : Description → DevRef → List ℕ
 ref_link stack (refs.Device name) = device_id stack name ∷ []
 ref_link stack (refs.Disk name) = []
 
--- the devices that a line names, and that the lines of a device do, by their ids
+-- the ids of the devices that a line names, in order
 abbrev pub line_links : Description → Line → List ℕ
 line_links stack line = flat_map (λ span. ref_link stack span.to) (spans line)
 
--- the ids of the devices that a device's lines name, in their order: one may come twice
+-- the ids of the devices that a device's lines name, in order; a device named twice is listed twice
 abbrev pub device_links : Description → DeviceSpec → List ℕ
 device_links stack device = flat_map (line_links stack) device.lines
 
--- which devices name which
+-- for each device, by id, the ids of the devices that it names
 abbrev pub links : Description → List (List ℕ)
 links stack = map (device_links stack) stack.devices

@@ -1,4 +1,4 @@
--- The words that contracts cite, here and in crates above, from one place.
+-- Names that contracts import, in dm_stack and in the crates above it, gathered in one module.
 pub use Rattle.dm_stack.specs.Base.{All, Contains, Deep, Gap, IfErr, IfOk, IsMemoryFault, IsTrue, Limit, List, Memory, None, OnOk, Option, Overlap, Some, Source, Unknown, [], code, drop, false, faults_by, filter, first_fault, first_or, flat_map, get_or, is_none, length, list_all, list_any, map, nat_le, nat_lt, not, position, replicate, result_err, slice_get, slice_index_or, string_bytes, to_le_bytes, true, w64, ℕ}
 pub use Rattle.dm_stack.specs.Description.{Description, described, device_id, device_len, device_links, disk_id, disk_len, disk_name_at, end_of, is_ro_at, is_same, is_same_lower, line_links, lines_at, lines_or_none, links, lower_len, lower_of, name_at, ref_link}
 pub use Rattle.dm_stack.specs.Looker.{Looking, next_count}

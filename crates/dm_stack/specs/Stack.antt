@@ -1,4 +1,4 @@
--- What a stack keeps beside its description.
+-- What a loaded stack keeps beside its description.
 use Rattle.dm_stack.specs.Base.{ℕ, List, map, DeviceSpec}
 use Rattle.dm_stack.specs.declared.lines.resolved_table.ResolvedDevice.{ResolvedDevice}
 use Rattle.dm_stack.specs.Description.{Description, end_of}
@@ -8,16 +8,16 @@ use Rattle.dm_stack.specs.checks.Snapshots.{snapshots}
 use Rattle.dm_stack.specs.checks.Depth.{stack_depth}
 use Rattle.std.specs.Prelude.{◌≡◌, ◌^◌, ◌≤◌}
 
--- a device with ids for names
+-- a device with its end, its read-only flag, and its lines with ids in place of names
 abbrev pub resolved_device : Description → DeviceSpec → ResolvedDevice
 resolved_device stack device = record { end = end_of device.lines; ro = device.ro; table = map (resolved_line stack) device.lines }
 
--- how many sectors a device or a disk has
+-- the number of sectors of a device or a disk: at least one, at most 2^50
 pub record IsLength (len : ℕ) : Type 0 where
   pub some : 1 ≤ len
   pub small : len ≤ 2 ^ 50
 
--- a sound description, with its names, its devices by ids, its depth and its snapshots
+-- what a loaded stack keeps fits its description, which is sound: names, devices by ids, the depth, and the snapshots
 pub record IsLoaded (stack : Description) (devices disks : List (List ℕ)) (by_ids : List ResolvedDevice) (deepest : ℕ) (over : List ℕ) : Type 0 where
   pub sound : IsSound stack
   pub device_names : devices ≡ map (λ device. device.name) stack.devices

@@ -1,4 +1,4 @@
--- What the checks of a load pass: `Soundness` has them in their order.
+-- The checks of a load; `Soundness` lists them in the order in which they are made.
 pub mod BadLines
 pub mod Depth
 pub mod Graph

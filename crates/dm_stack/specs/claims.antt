@@ -1,4 +1,4 @@
--- Claims: the sectors below that lines rely on, where two lines have one, and how that is looked for.
+-- Claims: the lower sectors that a line relies on, when two lines clash over one, and the search for clashes.
 pub mod Claims
 pub mod Naming
 pub mod Sweep

@@ -1,4 +1,4 @@
--- The line of a sector, how it is found, and what lies below it; how a store is laid out.
+-- Finding the line of a sector, what lies below the sector, and the layout of exception stores.
 pub mod Below
 pub mod ResolvedColumns
 pub mod Leg

@@ -1,2 +1,2 @@
--- The names of devices and disks: indexed, and found where they stand in a text.
+-- Names of devices and disks: an index over them, and finding the one that a text begins with.
 pub mod NameIndex

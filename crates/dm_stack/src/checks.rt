@@ -1,4 +1,4 @@
-//! The checks of a load, a module each: `load` has their order.
+//! The checks of a load, a module for each kind; `load` runs them in order.
 
 pub mod depth;
 pub mod faults;

@@ -1,4 +1,4 @@
-//! Claims: the sectors below that lines rely on, and where two lines have one.
+//! Claims: the lower sectors that lines rely on, and when two claims clash.
 
 pub mod claim;
 pub mod clash;

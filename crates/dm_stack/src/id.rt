@@ -1,13 +1,13 @@
-//! Ids: the indexes of devices and disks in the lists that a stack was loaded from.
+//! Ids: indexes of devices and disks in the lists that a stack was loaded from.
 //!
-//! A clause sees an id as the number that it is. An id is of the stack that gave it: of another one
-//! it may name nothing.
+//! Contracts see an id as a number. An id is valid only for the stack that returned it; in another stack it may
+//! name nothing.
 
 ghost use Rattle.std.specs.Prelude.{◌≡◌};
 
 use std::marker::Model;
 
-/// The id of a device of a stack. The default is that of the first one.
+/// The id of a device of a stack. The default is the id of the first device.
 #[derive(Clone, Copy, Debug, Default, PartialEq, Eq, Drop)]
 pub struct DeviceId {
     index: usize,
@@ -24,14 +24,14 @@ impl Model for DeviceId {
 }
 
 impl DeviceId {
-    /// The id at a position in the order of the load, from 0.
+    /// The id of the device with this index in the list, from 0.
     pub(crate) fn new(index: usize) -> DeviceId
         ensures { result ≡ index }
     {
         DeviceId { index }
     }
 
-    /// The index of the device in the order of the load, from 0.
+    /// The index of the device in the list that was loaded, from 0.
     pub fn index(self) -> usize
         ensures { result ≡ self }
     {
@@ -56,14 +56,14 @@ impl Model for DiskId {
 }
 
 impl DiskId {
-    /// The id at a position in the order of the load, from 0.
+    /// The id of the disk with this index in the list, from 0.
     pub(crate) fn new(index: usize) -> DiskId
         ensures { result ≡ index }
     {
         DiskId { index }
     }
 
-    /// The index of the disk in the order of the load, from 0.
+    /// The index of the disk in the list that was loaded, from 0.
     pub fn index(self) -> usize
         ensures { result ≡ self }
     {
@@ -71,7 +71,7 @@ impl DiskId {
     }
 }
 
-/// What a line names: a device of the stack, or a disk.
+/// The device or the disk of a stack that a line refers to.
 #[derive(Clone, Copy, Debug, PartialEq, Eq, Drop)]
 pub enum Lower {
     Device(DeviceId),

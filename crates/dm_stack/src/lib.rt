@@ -1,7 +1,7 @@
-//! Checked stacks of devices, and the line of a sector.
+//! Checked stacks of devices, and look-up of the line that holds a sector.
 //!
-//! A `Stack` exists only where no check of a load finds a fault, so nothing above asks for
-//! soundness again. Lines are found by a `Looker` alone, which counts its searches.
+//! A `Stack` exists only if no check of a load finds a fault, so callers never check soundness again. Only a
+//! `Looker` finds lines, and it counts its searches.
 #![tactic(auto)]
 
 mod checks;

@@ -1,4 +1,4 @@
-//! Lines by ids: how the line of a sector is found, what lies below it, and how a store is laid out.
+//! Lines with ids: finding the line of a sector, what lies below it, and the layout of exception stores.
 
 pub mod chunk_size;
 pub mod divisor;

@@ -1,8 +1,8 @@
-//! Lookers: what finds the lines of sectors.
+//! Lookers, which find the lines of sectors.
 //!
-//! A line is found in no other way, so a bound on a looker's count is one on the work of mapping.
-//! No call hands out the stack, and a looker is not copied: its count is that of all its searches.
-//! Whoever has the line of an origin has its snapshots too (`ResolvedOrigin::over`), without a search.
+//! Nothing else finds lines, so a bound on a looker's count bounds the work of mapping. No call gives access to
+//! the stack, and a looker can't be copied, so its count includes all its searches. The line of an origin holds
+//! the origin's snapshots (`ResolvedOrigin::over`), so finding them takes no search.
 
 ghost use Rattle.dm_stack.specs.Prelude.{length, IsLineOf, device_len, disk_len, is_ro_at, lines_at, next_count, snapshots, AreSnapshots, stack_depth, IsLength, IsSound, binary_digits};
 ghost use Rattle.std.specs.Prelude.{◌≡◌, ◌+◌, ◌-◌, ◌*◌, ◌<◌, ◌≤◌};
@@ -19,7 +19,7 @@ pub struct Looker<'s> {
     stack: &'s Stack,
     searches: u64,
     comparisons: u64,
-    /// The line that was found last, of those in devices of many lines.
+    /// The line found last in a device of more than three lines.
     last: LastLine,
 }
 
@@ -39,7 +39,7 @@ impl<'s> Model for Looker<'s> {
 }
 
 impl Stack {
-    /// A looker of this stack, with no search and no comparison counted.
+    /// A looker of this stack, whose counts are 0.
     pub fn looker(&self) -> Looker<'_>
         ensures stack { result.stack ≡ self.now }
         ensures searches { result.searches ≡ 0 }
@@ -55,13 +55,13 @@ impl Stack {
 }
 
 impl<'s> Looker<'s> {
-    /// The line of a sector of a device, with ids for names: also that of each other sector that it
-    /// holds. The search is counted, and so is each comparison of a line's start with the sector: at
-    /// most as many as the number of the device's lines has binary digits, and so at most 17; of more
-    /// than three lines, none where the sector comes right after the line that was found last, whose end
-    /// the looker keeps. Once the searches are at the greatest number, neither count grows.
+    /// Returns the line that holds a sector of a device, with ids in place of names. Counts the search, and each
+    /// comparison of a line's start with the sector: at most as many as the number of lines has binary digits, so
+    /// at most 17. In a device of more than three lines, there is no comparison if the sector comes right after
+    /// the line found last, whose end the looker remembers. When the searches have reached `u64::MAX`, neither
+    /// count grows any more.
     ///
-    /// The id is one of the stack, and the sector is below the device's length. No memory is taken.
+    /// The id must be one of the stack, and the sector below the device's length. No memory is allocated.
     pub fn look(&mut self, device: DeviceId, sector: u64) -> Found<'s>
         requires device { device < length self.old.stack.devices }
         requires sector { sector < device_len self.old.stack device }
@@ -76,7 +76,7 @@ impl<'s> Looker<'s> {
     {
         let stack = self.stack;
         let (line, comparisons) = stack.find_line(device, sector, &mut self.last);
-        // Both or neither: no comparison is counted without its search.
+        // Both grow, or neither, so that no comparison is counted without its search.
         if self.searches < u64::MAX {
             self.searches += 1;
             self.comparisons = self.comparisons.saturating_add(comparisons);
@@ -84,15 +84,15 @@ impl<'s> Looker<'s> {
         line
     }
 
-    /// The searches so far; it stays at the greatest number once there.
+    /// The number of searches so far; it stays at `u64::MAX` once it gets there.
     pub fn searches(&self) -> u64
         ensures { result ≡ self.now.searches }
     {
         self.searches
     }
 
-    /// How often these compared a line's start with a sector; it stays at the greatest number once
-    /// there, and where it is once the searches are.
+    /// How often searches compared a line's start with a sector so far. The count stops growing at `u64::MAX`,
+    /// and when the count of searches has reached that.
     pub fn comparisons(&self) -> u64
         ensures { result ≡ self.now.comparisons }
     {
@@ -132,7 +132,7 @@ impl<'s> Looker<'s> {
         self.stack.is_ro(device)
     }
 
-    /// The devices of the stack that are snapshots, in their order.
+    /// The ids of the devices that are snapshots, in rising order.
     pub fn snapshots(&self) -> &[DeviceId]
         ensures ids { result.now ≡ snapshots self.now.stack }
         ensures all { AreSnapshots self.now.stack result.now }
@@ -140,10 +140,10 @@ impl<'s> Looker<'s> {
         self.stack.snapshots()
     }
 
-    /// The greatest depth of a device of the stack, 0 without devices.
+    /// The greatest depth of a device of the stack, or 0 if it has no devices.
     pub fn depth(&self) -> u32
         ensures depth { result ≡ stack_depth self.now.stack }
-        // A stack is sound by its type.
+        // Every value of type `Stack` is sound.
         ensures sound { IsSound self.now.stack }
     {
         self.stack.depth()

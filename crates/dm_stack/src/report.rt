@@ -1,4 +1,4 @@
-//! What a check says of a stack, as text.
+//! The report of `check` on a stack, as text.
 
 ghost use Rattle.dm_stack.specs.Prelude.{IfOk, List, ℕ, string_bytes, IsLower, Description, IsReport, SaysTidiness, lower_text};
 ghost use Rattle.std.specs.Prelude.{◌≡◌, ◌++◌};
@@ -7,14 +7,14 @@ use crate::id::Lower;
 use crate::stack::Stack;
 use std::alloc::{AllocError, Global};
 
-/// What a check says of a stack: lines `devices N`, `disks N` and `depth N`, and then `tidy`, or
-/// `clash LOWER SECTOR FIRST SECOND` with the devices of the two claims. LOWER is a disk, or a device
-/// as `/dev/mapper/NAME`.
+/// The report on a stack: lines `devices N`, `disks N` and `depth N`, and then `tidy`, or `clash LOWER SECTOR
+/// FIRST SECOND` with the devices of the two claims. LOWER is the name of a disk, or `/dev/mapper/NAME` for a
+/// device.
 ///
 /// Fails only when out of memory. Cost: that of `Stack::tidy`.
 pub fn check_report(alloc: Global, stack: &Stack) -> Result<String, AllocError>
     ensures text { IfOk result (λ text. IsReport stack.now (string_bytes text)) }
-    // A stack has no other report.
+    // A stack has exactly one report.
     ensures one { (description : Description) (text other : List ℕ)
         → IsReport description text → IsReport description other → text ≡ other }
 {
@@ -28,7 +28,7 @@ pub fn check_report(alloc: Global, stack: &Stack) -> Result<String, AllocError>
     )
 }
 
-/// The last line of a report.
+/// The last line of a report, without its newline.
 fn tidiness_text(alloc: Global, stack: &Stack) -> Result<String, AllocError>
     ensures { IfOk result (λ text. SaysTidiness stack.now (string_bytes text)) }
 {
@@ -46,7 +46,7 @@ fn tidiness_text(alloc: Global, stack: &Stack) -> Result<String, AllocError>
     )
 }
 
-/// What a line names a lower device or disk by, in two parts.
+/// The name by which a line refers to a lower device or disk, in two parts.
 fn lower_words(stack: &Stack, lower: Lower) -> (&str, &str)
     requires { IsLower stack.now lower }
     ensures { result.0.now ++ result.1.now ≡ lower_text stack.now lower }

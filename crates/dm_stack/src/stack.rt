@@ -1,7 +1,7 @@
-//! Checked stacks.
+//! Checked stacks of devices and disks.
 //!
-//! The invariant carries the soundness, so nothing above asks for it again: a value is made only
-//! through the checks of a load. Names are looked up there; afterwards everything goes by ids.
+//! Soundness is the invariant of `Stack`, so callers never check it again: a value is only made by the checks of
+//! a load. A load looks up all names; afterwards everything goes by ids.
 
 ghost use Rattle.dm_stack.specs.Prelude.{ℕ, IfErr, IfOk, IfSome, IsTrue, OnOk, List, Option, Some, drop, is_none, length, position, take, true, Memory, Source, code, is_device_name, is_disk_name, IsMemoryFault, resolved_lines, IsLineOf, AreTops, IsFirstClash, IsThere, IsTidy, IsTop, claims, Description, described, device_len, disk_len, is_ro_at, is_same, name_at, disk_name_at, lines_at, IsDeeperByOne, IsLength, all_places, snapshots, stack_depth, AreSnapshots, IsLast, binary_digits, IsRefusedBy, IsSound, Claim, Clash};
 ghost use Rattle.dm_table.specs.declared.load.load_fault.LoadFault.{LoadFault};
@@ -25,7 +25,7 @@ use dm_table::{DeviceSpec, Disk, Listed, LoadFault, Reserved};
 use std::alloc::{AllocError, Global};
 use std::marker::Model;
 
-/// A stack in which no check of a load finds a fault.
+/// Devices and disks in which no check of a load finds a fault.
 #[derive(Drop)]
 pub struct Stack {
     devices: Listed<DeviceSpec>,
@@ -50,42 +50,40 @@ impl Model for Stack {
 }
 
 impl Stack {
-    /// Loads a stack, or returns why not: the first fault of the first check that finds any.
+    /// Loads a stack, or fails with the first fault of the first check that finds one.
     ///
-    /// Lengths, starts and offsets are in sectors of 512 bytes. The indexes of devices and disks in
-    /// these lists are their ids. The checks in their order, each with the kind of its fault:
+    /// Lengths, starts and offsets are in sectors of 512 bytes. The ids of devices and disks are their indexes in
+    /// these lists. The checks in order, each with the kind of its fault:
     ///
-    /// 1. `Limit`: at most 1,024 devices, then 1,024 disks, then 65,536 lines of all tables
-    ///    together. The fault is at the first that is one too many.
-    /// 2. `Limit`: no start, length, end or offset of a line, and then no length of a disk, is above
-    ///    2^50.
-    /// 3. `Twice`: a device whose name an earlier one has, then a disk.
+    /// 1. `Limit`: at most 1,024 devices, 1,024 disks, and 65,536 lines of all tables together, checked in this
+    ///    order. The fault is at the first one too many.
+    /// 2. `Limit`: no start, length, end or offset of a line is above 2^50, and then no length of a disk.
+    /// 3. `Twice`: a device with the name of an earlier one, then a disk with that of an earlier disk.
     /// 4. `Empty`: a device without lines, or a line of length 0, then a disk of length 0.
-    /// 5. `Gap`, `Overlap`: a line that starts after the end of the one before, or before it. The
-    ///    first line starts at 0.
-    /// 6. `Unknown`: a line that names a device or a disk that is not there.
-    /// 7. `Cycle`: the first device that reaches itself by what lines name.
-    /// 8. `Deep`: a device whose depth is above 32. It is 1 plus the greatest of the devices that
-    ///    it names, so that of a device that names none is 1.
-    /// 9. `Stripe`: a striped line with fewer than 1 or more than 128 columns, a chunk below 1 or
-    ///    above 2^32 - 1, or a length that is not a multiple of the number of columns, or whose share
-    ///    for each column is not a multiple of the chunk.
+    /// 5. `Gap`, `Overlap`: a line that starts after the end of the line before, or before that end. The first
+    ///    line must start at 0.
+    /// 6. `Unknown`: a line that names a device or a disk that isn't in the lists.
+    /// 7. `Cycle`: the first device that names itself, directly or through other devices.
+    /// 8. `Deep`: a device whose depth is above 32. A device that names no device has depth 1; any other is one
+    ///    deeper than the deepest that it names.
+    /// 9. `Stripe`: a striped line with fewer than 1 or more than 128 columns, a chunk below 1 or above 2^32 - 1
+    ///    sectors, or a length that is not a multiple of the number of columns times the chunk.
     /// 10. `Range`: a line that passes the end of what it names.
     /// 11. `Snapshot`: a snapshot or an origin that is not the only line of its table, or is not as
     ///     long as the origin that it names, or a snapshot whose chunk is no power of two from 1 to
     ///     1,024.
     /// 12. `Store`: a snapshot whose store is neither a disk nor a writable device of linear and
     ///     striped lines that names nothing but disks and such devices, down to disks.
-    /// 13. `Limit`: the snapshot whose store brings all stores to more than 4,194,304 places for
-    ///     chunks together.
+    /// 13. `Limit`: the first snapshot at which the stores so far have room for more than 4,194,304 chunks
+    ///     together.
     ///
-    /// A check goes over the devices in their order, and over the lines of each; disks come after
-    /// them. `Memory`, with the number 0, means that memory was refused; it says nothing of the lists.
+    /// A check goes over the devices in order, and over the lines of each; disks come last. `Memory`, with the
+    /// number 0, means that memory ran out, and tells nothing about the lists.
     ///
-    /// Cost: near-linear in the lines and their columns, the devices and the disks, with memory for
-    /// a copy of each name and each line, 128 to 256 bytes more for each device and each disk, and 16 KiB; for
-    /// each line of an origin a walk over the snapshots, with memory for those of the origin; where devices are
-    /// too deep, a search of what one reaches for each of them in turn.
+    /// Cost: near-linear in the lines and their columns, the devices and the disks, with memory for a copy of
+    /// each name and each line, 128 to 256 bytes more for each device and each disk, and 16 KiB. Each line of an
+    /// origin takes a walk over the snapshots, with memory for those of the origin. If devices are too deep, each
+    /// takes a search of all that it reaches.
     pub fn load(
         alloc: Global,
         devices: Vec<DeviceSpec>,
@@ -101,7 +99,7 @@ impl Stack {
             → IsRefusedBy stack found → IsRefusedBy stack other → found ≡ other }
         ensures never { (stack : Description) (found : LoadFault)
             → IsSound stack → IsRefusedBy stack found → ⊥ }
-        // The figures of the limits.
+        // The limits as plain numbers.
         ensures limits { (MOST_DEVICES ≡ 1024) × (MOST_DISKS ≡ 1024) × (MOST_LINES ≡ 65536)
             × (MOST_DEPTH ≡ 32) × (MOST_LENGTH ≡ 2 ^ 50) × (MOST_STRIPES ≡ 128) × (MOST_CHUNK + 1 ≡ 2 ^ 32)
             × (MOST_SNAPSHOT_CHUNK ≡ 1024) × (MOST_PLACES ≡ 4194304) }
@@ -118,7 +116,7 @@ impl Stack {
         })
     }
 
-    /// The devices and the disks that were loaded, in their order. No memory is taken.
+    /// Returns the devices and disks that were loaded, in order. No memory is allocated.
     pub fn into_parts(self) -> (Vec<DeviceSpec>, Vec<Disk>)
         ensures devices { result.0.items ≡ self.devices }
         ensures disks { result.1.items ≡ self.disks }
@@ -126,7 +124,7 @@ impl Stack {
         (self.devices.into_vec(), self.disks.into_vec())
     }
 
-    /// The device of a name.
+    /// The id of the device with this name.
     pub fn device(&self, name: &str) -> Option<DeviceId>
         ensures { result ≡ position (λ device. is_same device.name name.now) self.now.devices }
     {
@@ -136,7 +134,7 @@ impl Stack {
         }
     }
 
-    /// The disk of a name.
+    /// The id of the disk with this name.
     pub fn disk(&self, name: &str) -> Option<DiskId>
         ensures { result ≡ position (λ disk. is_same disk.name name.now) self.now.disks }
     {
@@ -146,11 +144,12 @@ impl Stack {
         }
     }
 
-    /// The device whose name stands at the front of a text, up to a space, and how long the name is: the
-    /// quick way to the device of a request. `None` says nothing of the text, as near its end, or where
-    /// another name is alike.
+    /// The device whose name is at the front of a text and ends at a space, and the length of the name: the fast
+    /// way to the device of a request. `None` says nothing about the text: near a text's end, or if another name
+    /// is similar, the name may not be found.
     ///
-    /// No memory is taken. Cost: about the same at any number of devices, and for any name of up to 15 bytes.
+    /// No memory is allocated. Cost: about the same for any number of devices, and for any name of up to 15
+    /// bytes.
     #[inline(always)]
     pub fn device_at_front(&self, text: &[u8]) -> Option<(DeviceId, usize)>
         ensures device { IfSome result (λ found.
@@ -160,13 +159,13 @@ impl Stack {
             (λ found. text.now ≡ take found.1 text.now ++ code " " ∷ drop (found.1 + 1) text.now) }
     {
         let (index, len) = self.device_names.find_in_text(text)?;
-        // It has the form of a device's name by its type.
+        // Its type says that a device's name has the form of one.
         let _name = self.devices.as_slice()[index].name.as_str();
         Some((DeviceId::new(index), len))
     }
 
-    /// Whether the lines of some device are in buckets, as more than three are: then `starts_ahead` reads some of
-    /// them. It says nothing of the stack. Cost: linear in the devices.
+    /// Whether any device has its lines in buckets, as those with more than three lines have: only then does
+    /// `starts_ahead` read anything. Cost: linear in the devices.
     pub fn has_buckets(&self) -> bool {
         self.found
             .as_slice()
@@ -174,11 +173,11 @@ impl Stack {
             .any(|device| device.table.has_buckets())
     }
 
-    /// A number made of the starts of the lines with which a look-up of a sector begins, where the lines of the
-    /// device are in buckets. Whoever asks for it has read what the look-up reads first.
+    /// A number computed from the starts of the lines that a look-up of this sector begins with, if the device's
+    /// lines are in buckets. Calling this brings what the look-up reads first into the cache.
     ///
-    /// It says nothing of the stack. It reads the index of a bucket's first line, and up to four lines from there
-    /// on, compares none of them, and is counted nowhere. No memory is taken.
+    /// The number itself means nothing. The call reads the index of a bucket's first line, and up to four lines
+    /// from there on; it compares none of them and counts nothing. No memory is allocated.
     #[inline(always)]
     pub fn starts_ahead(&self, device: DeviceId, sector: u64) -> Option<u64> {
         self.found
@@ -188,9 +187,9 @@ impl Stack {
             .starts_ahead(sector)
     }
 
-    /// The chunk of a sector, where the device is a snapshot.
+    /// The chunk that holds a sector, if the device is a snapshot.
     ///
-    /// It says nothing of the stack, reads the device's only line, and is counted nowhere. No memory is taken.
+    /// The call reads the device's only line, and counts nothing. No memory is allocated.
     #[inline(always)]
     pub fn chunk_ahead(&self, device: DeviceId, sector: u64) -> Option<u64> {
         self.found
@@ -225,7 +224,7 @@ impl Stack {
         self.devices.as_slice().len()
     }
 
-    /// The disks in their order.
+    /// The disks, in order.
     pub fn disks(&self) -> &[Disk]
         ensures { result.now ≡ self.now.disks }
     {
@@ -239,20 +238,19 @@ impl Stack {
         self.disks.as_slice().len()
     }
 
-    /// The greatest depth of a device, 0 without devices. A device is one deeper than the deepest
-    /// of what it names; a disk's depth is 0.
+    /// The greatest depth of any device, or 0 if there are none. A device is one deeper than the deepest of what
+    /// it names; a disk's depth is 0.
     pub fn depth(&self) -> u32
         ensures depth { result ≡ stack_depth self.now }
-        // A value is sound by its type.
+        // Every value of type `Stack` is sound.
         ensures sound { IsSound self.now }
         ensures rule { IsDeeperByOne self.now }
     {
         self.depth
     }
 
-    /// The devices that are snapshots, in their order: each has a snapshot's line, alone in its table,
-    /// and no other device has one at its first sector. Their stores have at most 4,194,304 places for
-    /// chunks together.
+    /// The ids of the devices that are snapshots, in rising order: the only line of each is a snapshot line, and
+    /// no other device has one at its first sector. Their stores have room for at most 4,194,304 chunks together.
     pub fn snapshots(&self) -> &[DeviceId]
         ensures ids { result.now ≡ snapshots self.now }
         ensures all { AreSnapshots self.now result.now }
@@ -269,9 +267,9 @@ impl Stack {
         self.found(device).ro
     }
 
-    /// Whether no line names a device of the stack, so that none claims any of it.
+    /// Whether no line of the stack names the device, so that nothing claims any of it.
     ///
-    /// No memory is taken. Cost: linear in the lines of the stack and their columns.
+    /// No memory is allocated. Cost: linear in the lines of the stack and their columns.
     pub fn is_top(&self, device: DeviceId) -> bool
         requires { device < length self.now.devices }
         ensures { IsTrue result ↔ IsTop self.now device }
@@ -279,10 +277,10 @@ impl Stack {
         !is_named(&self.resolved(), device)
     }
 
-    /// For each device of the stack, whether no line names it: what `is_top` answers, for all of them at once.
+    /// For each device of the stack, what `is_top` returns: whether no line names it.
     ///
-    /// Fails only when out of memory. Cost: linear in the lines of the stack and their columns, with memory for the
-    /// claims.
+    /// Fails only when out of memory. Cost: linear in the lines of the stack and their columns, with memory for
+    /// the claims.
     pub fn tops(&self, alloc: Global) -> Result<Vec<bool>, AllocError>
         ensures { IfOk result (λ tops. AreTops self.now tops.items) }
     {
@@ -290,28 +288,28 @@ impl Stack {
         unclaimed(alloc, &claims, self.device_count())
     }
 
-    /// The first claim that meets an earlier one, or nothing, which is where the stack is tidy.
+    /// Finds the first claim that clashes with an earlier one; None exactly if the stack is tidy.
     ///
-    /// A linear line claims its range below, a striped line one range a column, a snapshot all of
-    /// its store and, for reading, all of its origin, and the line of an origin, to serve those who
-    /// read it, all of that. Claims come by device, line and column, a store before its origin. Two
-    /// meet where they have a sector of one device or disk, unless both are for reading or one is for
-    /// reading and the other serves. The clash has the earliest claim that the first one meets, and
-    /// the least sector that both have.
+    /// A linear line claims the range below it, a striped line a range for each column. A snapshot claims all of
+    /// its store and, for reading, all of its origin; an origin's line claims all of what it names, for serving
+    /// those that read it. Claims are in the order of devices, lines, and then columns, or store before origin.
+    /// Two claims clash if they have a sector of one device or disk in common, unless both read, or one reads and
+    /// the other serves. The result names the earliest claim that the first one clashes with, and the least
+    /// sector that both have.
     ///
-    /// Fails only when out of memory. Cost: that of sorting the claims, and a walk over them for each
-    /// binary digit of their number, with memory for two copies of each.
+    /// Fails only when out of memory. Cost: sorting the claims, and a walk over them for each binary digit of
+    /// their number, with memory for two copies of each.
     pub fn tidy(&self, alloc: Global) -> Result<Option<Clash>, AllocError>
         ensures clash { IfOk result (λ found. IsFirstClash (claims self.now) found) }
         ensures tidy { IfOk result (λ found. IsTrue (is_none found) ↔ IsTidy self.now) }
-        // What it names is there.
+        // The devices and the sector that the clash names are in the stack.
         ensures there { IfOk result (λ found. IfSome found (IsThere self.now)) }
-        // Claims have no other clash.
+        // A list of claims has exactly one first clash.
         ensures one { (all : List Claim) (found other : Option Clash)
             → IsFirstClash all found → IsFirstClash all other → found ≡ other }
     {
         let claims = claims(alloc, &self.resolved())?;
-        // A name that is not there would have the count as its id, so ids are at most that.
+        // An unknown name would have an id equal to the count, so counts plus one are above all ids.
         first_clash(
             alloc,
             &claims,
@@ -338,7 +336,7 @@ impl Stack {
         self.disks.as_slice()[disk.index()].name.as_str()
     }
 
-    /// The description, with its lines by ids.
+    /// The description together with its lines with ids.
     fn resolved(&self) -> Resolved<'_>
         ensures description { result ≡ self.now }
         ensures sound { IsSound self.now }
@@ -350,7 +348,7 @@ impl Stack {
         )
     }
 
-    /// A device with ids for names: its end, whether it is read-only, and its lines in their order.
+    /// A device with ids in place of names: its end, its read-only flag, and its lines.
     #[inline(always)]
     fn found(&self, device: DeviceId) -> &ResolvedDevice
         requires { device < length self.now.devices }
@@ -362,8 +360,9 @@ impl Stack {
         &self.found[device.index()]
     }
 
-    /// The line of a sector, and how many starts of lines were compared with it: of more than three
-    /// lines, none where it comes right after the last line, which becomes the one that is found.
+    /// The line that holds a sector, and how many starts of lines were compared with the sector. In a device of
+    /// more than three lines it is none if the sector comes right after `last`, which then becomes the line
+    /// found.
     pub(crate) fn find_line(
         &self,
         device: DeviceId,

@@ -1,4 +1,4 @@
--- What comes from a store fits it.
+-- Chunks that are read from a store fit it and are all different.
 use Rattle.dm_store.proofs.Prelude.{ℕ, zero, suc, Bool, true, false, cond, List, Option, Some, None, Result, Ok, Err, length, nat_eq, refl, sym, subst, arith, length-append, IsDistinct, not, is_some, nat_lt, ltb-true, and_parts, or_parts, SectorFault, ListFault, StoreFault, Magic, Version, Chunk, Pair, Store, four_at, Sectors, each, pair, old_chunks, row_sector, pair_count, rest_count, Stored, Fresh, Lost, Holds, Refused, by_header, clear_count, list_fault, fault_of, is_any_again, is_near, is_placed, list_count, listed, of_list, rest_fault, AlwaysFit, Persistent, place, number_in, none_of}
 use Rattle.dm_map.proofs.Numbers.{distinct_more}
 use Rattle.std.specs.Prelude.{◌≡◌, ◌+◌, ◌/◌, ◌<◌, ◌≤◌, ◌==◌}
@@ -28,7 +28,7 @@ no_fault : (placed near again : Bool) → fault_of placed near again ≡ None �
 no_fault true true false e = (refl, refl)
 no_fault placed near again e = absurd cc
 
--- a store that holds chunks passes each check and is used, its list can be read, and has no fault
+-- a store that holds chunks has a header in use with the right numbers, and a readable list without fault
 pub words_hold : (fresh magic version chunk invalid : Bool) (used : Stored) (chunks : List ℕ)
     → cond fresh Fresh (cond (not magic) (Refused Magic) (cond (not version) (Refused Version) (cond (not chunk) (Refused Chunk) (cond invalid Lost used)))) ≡ Holds chunks
     → (magic ≡ true) × (version ≡ true) × (chunk ≡ true) × (invalid ≡ false) × (used ≡ Holds chunks)
@@ -39,7 +39,7 @@ pub header_holds : (used : Stored) (in_table : ℕ) (header : Result (List ℕ) 
 header_holds used in_table (Err fault) chunks e = absurd cc
 header_holds used in_table (Ok h) chunks e = (words_hold (four_at h 0 == 0) (four_at h 0 == 0x70416e53) (four_at h 8 == 1) (four_at h 12 == in_table) (four_at h 4 == 0) used chunks e).4
 
--- where not all areas are full, the rest of the one in which the list ends is clear
+-- a list that ends within an area has only zero pairs after it in the area
 pub end_holds : (full clear : Bool) (held : Stored) (fault : StoreFault) (chunks : List ℕ) → cond full held (cond clear held (Refused fault)) ≡ Holds chunks → (held ≡ Holds chunks) × (full ≡ false → clear ≡ true)
 end_holds true clear held fault chunks e = (e, λ other. absurd cc)
 end_holds false true held fault chunks e = (e, λ other. refl)

@@ -1,13 +1,13 @@
--- Of lists of pairs: how long they are, and one more pair.
+-- Lists of pairs: their length, and the effect of one more pair.
 use Rattle.dm_store.proofs.Prelude.{inl, inr, ℕ, zero, suc, Bool, true, false, cond, [], refl, sym, arith, is_some, le-suc_iff, and-false, Pair, Store, each, count_of, old_chunks, next_fault, list_fault, fault_of, is_any_again, is_placed, is_near, number_in}
 use Rattle.std.specs.Prelude.{◌≡◌, ◌+◌, ◌<◌, ◌≤◌, ◌∷◌, ◌++◌, ◌&&◌, ◌||◌}
 
--- one more
+-- the test passes for one more number
 pub each_more : (p : ℕ → Bool) (n : ℕ) → each p n ≡ true → p n ≡ true → each p (n + 1) ≡ true
 unfolding each
 each_more p n e h = let k : n + 1 ≡ suc n = omega arith in rw (k, e, h) refl
 
--- not each of them, from one that isn't so on
+-- if the test fails for n, it doesn't pass for all numbers below a greater m
 pub each_stop : (p : ℕ → Bool) (n m : ℕ) → p n ≡ false → n < m → each p m ≡ false
 unfolding each
 each_stop p n zero h below = absurd (omega (arith, below))
@@ -29,7 +29,7 @@ count_stop p n (suc most) e h within = elim (le-suc_iff.0 within) as (λ _. cond
   | inr same ↦ let full : each p (suc most) ≡ true = rw (sym same) e in rw full (sym same)
 ]
 
--- a fault after one more pair
+-- the fault of a list with one more pair
 fault_next : (placed near again p n a : Bool) → fault_of (placed && p) (near && n) (again || a) ≡ next_fault p n a (fault_of placed near again)
 fault_next false near again true n a = refl
 fault_next true false again true true a = refl

@@ -1,4 +1,4 @@
--- Lists, by what is read of them.
+-- Stores agree with a state exactly if reading them gives what a restart reads back of it.
 use Rattle.dm_store.proofs.Prelude.{inl, inr, ℕ, Bool, true, false, cond, List, Option, Some, None, Result, Ok, Err, length, refl, sym, ap, subst, ◌∙◌, arith, option_and_then, not, cases_Bool, eqb-true, true≢false, none-some, ResolvedLine, Description, found_at, State, Taken, lost, none_taken, taken_at, snapshot_of, home, line_there, ListFault, SectorFault, StoreFault, Magic, Version, Chunk, Pair, Store, DiskContents, pair_count, rest_count, row_sector, four_at, Sectors, bytes_or_none, old_chunks, pair, pair_in, AreKept, AreListed, Gone, HoldMore, IsGone, Lists, Spelled, Unused, kept_in, AreClearFrom, Spells, start_of, store_if, store_sectors, stored_state, taken_if, taken_in, Stored, Fresh, Lost, Holds, Refused, by_header, clear_count, list_count, list_fault, listed, of_list, rest_fault, stored}
 use Rattle.dm_store.proofs.RestartLemmas.{gone_kept, valid_kept}
 use Rattle.dm_store.proofs.SpeltLemmas.{is_spelled}
@@ -6,9 +6,9 @@ use Rattle.dm_store.proofs.StateLemmas.{are_first, ok_is}
 use Rattle.dm_store.proofs.WalkLemmas.{pair_known}
 use Rattle.std.specs.Prelude.{◌≡◌, ◌+◌, ◌/◌, ◌%◌, ◌<◌, ◌==◌, ◌⊎◌}
 
--- ---- headers, by what is read of a store
+-- ---- headers, from what is read of a store
 
--- what a list can say of a store
+-- what is read is what a list can say, so it comes from a store in use
 abbrev is_list : Stored → Bool
 is_list Fresh = false
 is_list Lost = false
@@ -56,7 +56,7 @@ lost_header used in_table (Ok h) list e =
       record { magic = eqb-true (four_at h 0) 0x70416e53 parts.0; valid = eqb-true (four_at h 4) 0 parts.3; version = eqb-true (four_at h 8) 1 parts.1; chunk_len = eqb-true (four_at h 12) in_table parts.2 },
     )
 
--- ---- a store lists what its snapshot took where what it holds is kept of that
+-- ---- a store agrees with what its snapshot took if reading it gives what a restart reads back
 
 by_says : (sectors : Sectors) (store : Store) (taken : Taken) (says : Stored) → stored sectors store ≡ says → taken_in says ≡ Ok (kept_in (Some store) taken) → Lists sectors store taken
 by_says sectors store taken Fresh is e =
@@ -94,12 +94,12 @@ said stack disks left found is kept = λ device store of.
     by_says sectors store (taken_at left device) (stored sectors store) refl
     (sym (ap (λ (s : Option Store). taken_if stack disks s) of) ∙ starts ∙ ap (λ (t : Taken). let r : Result Taken StoreFault = Ok t in r) (kept device store of))
 
--- ---- and still lists it where more can be read
+-- ---- a store still agrees with what its snapshot took if more of its sectors can be read
 
 abbrev HasMore : (sectors others : Sectors) → Type 0
 HasMore sectors others = (sector : ℕ) (bytes : List ℕ) → sectors sector ≡ Ok bytes → others sector ≡ Ok bytes
 
--- a pair that isn't free could be read
+-- a pair in use has a sector that can be read
 pair_more : (sectors others : Sectors) (chunk number : ℕ) (wanted : Pair) (row : Result (List ℕ) SectorFault) → HasMore sectors others → (wanted.new ≡ 0 → ⊥) → sectors (row_sector chunk (number / 32)) ≡ row → pair sectors chunk number ≡ wanted → pair others chunk number ≡ wanted
 pair_more sectors others chunk number wanted (Ok block) more some is same =
     pair_known others chunk number block (more (row_sector chunk (number / 32)) block is) ∙ sym (pair_known sectors chunk number block is) ∙ same

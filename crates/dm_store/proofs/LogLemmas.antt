@@ -1,4 +1,4 @@
--- A log with one more read.
+-- A log of reads with one more read.
 use Rattle.dm_store.proofs.Prelude.{ℕ, List, [], drop, length, length-drop, arith, take-append-le, take_all, drop-append-le, Asked, AreRead, Contents, Agrees, given_total, path_total}
 use Rattle.std.specs.Prelude.{◌≡◌, ◌↔◌, ◌+◌, ◌≤◌, ◌∷◌, ◌++◌}
 
@@ -12,7 +12,7 @@ unfolding given_total
 given_more [] asked = omega arith
 given_more (first ∷ later) asked = rw (given_more later asked) (omega arith)
 
--- contents agree with one more read exactly if they agree with those before, and with it
+-- contents agree with the log and one more read exactly if they agree with the log and with the read
 pub agrees_more : (held : Contents) (log : List Asked) (asked : Asked) (paths path given bytes : List ℕ)
     → length paths ≡ path_total log → length given ≡ given_total log → length path ≡ asked.path_len → length bytes ≡ asked.len
     → Agrees held (log ++ asked ∷ []) (paths ++ path) (given ++ bytes) ↔ (Agrees held log paths given × AreRead (held asked.line path) asked.sector asked.answer bytes)

@@ -1,4 +1,4 @@
--- The words and lemmas that proofs cite, from one place.
+-- Names and lemmas that the proofs of dm_store import, gathered in one module.
 pub use Rattle.dm_map.proofs.ChunkTaking.{none_at, none_of, taken_same}
 pub use Rattle.dm_map.proofs.NeverLost.{chunk_inside, exact}
 pub use Rattle.dm_map.proofs.ResolvedLines.{line_snapshot, line_there, snapshot_sound}

@@ -1,4 +1,4 @@
--- A restart finds the state that the lists of stores keep, and in it each top device has its row, or errors.
+-- A restart finds the state that the stores' lists keep, and each sector of a top device then reads as its row says, or as an error.
 use Rattle.dm_store.proofs.Prelude.{inl, inr, ℕ, zero, suc, true, false, List, [], Option, Some, None, Result, Ok, length, refl, sym, ap, subst, ◌∙◌, arith, AllByRecursion, cases_Bool, eq-eqb, get_or_append_left, length-append, le-suc_iff, get_or-append_seam, StoreKind, Transient, Device, Disk, ResolvedLine, ResolvedSnapshot, ResolvedTarget, IsSound, IsTidy, IsTop, Description, Below, Lies, IsError, below_line, below_target, found_at, AreExact, IsAmple, IsOwnAt, Moment, after_played, Stays, value_read, AreOwn, Rows, BlockUnit, Zeros, Fails, IsFitting, read_over, State, Taken, lost, none_taken, taken_at, snapshot_at, by_below, read_below, read_unit, exact, line_snapshot, line_there, snapshot_sound, StoreFault, Store, IsLostInStore, DiskContents, Sectors, Ahead, AllKeepLists, AreListed, AreRestarts, Event, Gone, Held, IsFound, IsOfTop, IsRestart, Lists, Loses, Plays, Spelled, Unused, after_event, after_events, kept, kept_first, kept_in, if_listing, snapshot_store, start_of, state_of_first, store_at, store_if, store_sectors, stored_state, taken_if, taken_in, Fresh, Lost, listed, stored}
 use Rattle.dm_stack.specs.declared.id.Lower.{Lower}
 use Rattle.dm_stack.specs.declared.checks.graph.TheConstants.{MOST_DEPTH}
@@ -14,7 +14,7 @@ use Rattle.dm_store.proofs.StateLemmas.{stored_fits}
 use Rattle.dm_store.proofs.StoreLemmas.{taken_valid}
 use Rattle.std.specs.Prelude.{◌≡◌, ◌≢◌, ◌-◌, ◌<◌, ◌∷◌, ◌++◌}
 
--- ---- what lists say is read
+-- ---- what lists say is what is read
 
 pub valid_kept : (store : Store) (taken : Taken) → taken.valid ≡ true → kept_in (Some store) taken ≡ taken
 valid_kept store taken valid = rw valid refl
@@ -47,7 +47,7 @@ first_back stack disks state (suc device) listed =
 pub listed_back : (stack : Description) (disks : DiskContents) (state : State) → AreListed stack disks state → stored_state stack disks ≡ Ok (kept stack state)
 listed_back stack disks state listed = first_back stack disks state (length stack.devices) listed
 
--- ---- what is kept of a device
+-- ---- what a restart reads back of a device
 
 kept_count : (stack : Description) (state : State) (count : ℕ) → length (kept_first stack state count) ≡ count
 unfolding kept_first
@@ -79,7 +79,7 @@ snapshot_keeps : (stack : Description) (device : ℕ) (snapshot : ResolvedSnapsh
 snapshot_keeps stack device snapshot keep over =
     ap (λ (s : Option ResolvedSnapshot). store_if stack device s) over ∙ keeps snapshot.kind (snapshot_store stack device snapshot) (keep device snapshot over)
 
--- ---- reads
+-- ---- reads of sectors after a restart
 
 over_kept : (taken : Taken) (store : Store) (snapshot : ResolvedSnapshot) (sector : ℕ) → read_over (kept_in (Some store) taken) snapshot sector ≡ read_over taken snapshot sector
 over_kept taken store snapshot sector = elim (cases_Bool taken.valid) [
@@ -119,7 +119,7 @@ reads_same stack a b (suc levels) (Device device) sector same =
     ap (λ (x : Below). by_below x Zeros Fails (λ to at. read_unit stack a levels to at)) (same device sector)
     ∙ below_same (read_below stack b device sector) (λ to at. read_unit stack a levels to at) (λ to at. read_unit stack b levels to at) (λ to at. reads_same stack a b levels to at same)
 
--- ---- what devices have
+-- ---- what devices read as after a restart
 
 kept_fits : (stack : Description) (state : State) → IsSound stack → AllKeepLists stack → IsFitting stack state → IsFitting stack (kept stack state)
 kept_fits stack state sound keep fits = record {
@@ -142,7 +142,7 @@ kept_own zeros stack state disks rows sound keep own = record {
       (own.tops top sector is_top);
 }
 
--- ---- the moment of a cut
+-- ---- the moment of a power cut
 
 played_own : (zeros : Held) (stack : Description) (moment : Moment Held) (asked : Asked Held) (stop : Option ℕ) → IsSound stack → IsTidy stack → IsTop stack asked.device → IsOwnAt zeros stack moment → IsOwnAt zeros stack (after_played zeros stack stop asked moment)
 played_own zeros stack moment asked None sound tidy top own =

@@ -1,4 +1,4 @@
--- What is spelled in a store is read back.
+-- The list that a store spells is what reading the store gives.
 use Rattle.dm_store.proofs.Prelude.{inl, inr, ℕ, zero, suc, Bool, true, false, List, [], Option, None, Result, get_or, length, nat_eq, take, refl, sym, ap, subst, ◌∙◌, arith, IsDistinct, nat_lt, not, slice_index, eq-eqb, le-leb, lt-ltb, ne_eqb, and_from, take_all, take-suc, slice_get-get_or, ListFault, SectorFault, Pair, Store, four_at, Sectors, each, old_chunks, pair, pair_count, rest_count, IsClear, ReadsBack, Spells, Holds, are_zeros, is_clear, is_clear_in, list_fault, fault_of, is_any_again, is_listed, is_near, is_placed, list_count, listed, of_count, of_list, Persistent, place, number_in}
 use Rattle.dm_table.proofs.Lists.{at_index}
 use Rattle.dm_store.proofs.ListLemmas.{count_full, count_stop}
@@ -10,7 +10,7 @@ unfolding each
 each_all p zero all = refl
 each_all p (suc n) all = rw (each_all p n (λ i less. all i (omega (arith, less))), all n (omega arith)) refl
 
--- of a list without doubles, an element isn't among those before it
+-- in a list without duplicates, an element isn't among those before it
 new_at : (xs : List ℕ) (i : ℕ) → IsDistinct nat_eq xs → i < length xs → number_in (get_or xs i 0) (take i xs) ≡ None
 unfolding IsDistinct
 new_at [] i distinct less = absurd (omega (arith, less))

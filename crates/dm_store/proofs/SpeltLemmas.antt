@@ -1,4 +1,4 @@
--- What is said to be held is spelled.
+-- The list that reading a store gives is what the store spells.
 use Rattle.dm_store.proofs.Prelude.{inl, inr, ℕ, zero, suc, Bool, true, false, cond, List, [], None, Result, Ok, Err, get_or, length, refl, sym, ap, subst, ◌∙◌, arith, nat_lt, slice_index, eq-eqb, eqb-true, leb-true, ne_eqb, and_parts, le-suc_iff, get_or_append_left, get_or-append_seam, SectorFault, Pair, Store, four_at, Sectors, count_of, each, old_chunks, pair, pair_in, pair_count, rest_count, row_sector, AreClearFrom, IsClear, IsSpelled, IsUsed, Holds, Stored, by_header, clear_count, fault_of, is_any_again, is_clear, is_clear_in, is_listed, is_near, is_placed, list_count, list_fault, listed, Persistent, place}
 use Rattle.dm_store.proofs.FittingLemmas.{always_fits, header_holds, length_old, list_ends, list_holds, words_hold}
 use Rattle.std.specs.Prelude.{◌≡◌, ◌⊎◌, ◌+◌, ◌/◌, ◌%◌, ◌<◌, ◌≤◌, ◌∷◌, ◌++◌, ◌≢◌, ◌==◌, ◌&&◌}
@@ -41,7 +41,7 @@ old_at pairs (suc n) i less =
           ap (λ (x : ℕ). get_or (before ++ (pairs n).old ∷ []) x 0) at ∙ get_or-append_seam before (pairs n).old [] 0 ∙ ap (λ (x : ℕ). (pairs x).old) k
     ]
 
--- how many are so, up to the first that isn't: each of them is, and that one isn't
+-- count is how many numbers pass the test, up to the first that doesn't: all below count pass, and count itself fails or is the limit
 record Ends (p : ℕ → Bool) (most count : ℕ) : Type 0 where
   pub each_so : each p count ≡ true
   pub stops : (count ≡ most) ⊎ ((count < most) × (p count ≡ false))
@@ -50,7 +50,7 @@ not_next : (a b : Bool) → a ≡ true → (a && b) ≡ false → b ≡ false
 not_next true b t e = e
 not_next false b t e = absurd cc
 
--- by whether each of one more is so
+-- one more number: either all pass, or the count is as before
 go_ends : (p : ℕ → Bool) (m : ℕ) (b : Bool) → (each p m && p m) ≡ b → each p (suc m) ≡ b → Ends p m (count_of p m) → Ends p (suc m) (cond b (suc m) (count_of p m))
 go_ends p m true both is ends = record { each_so = is; stops = inl refl }
 go_ends p m false both is ends = elim ends.stops as (λ _. Ends p (suc m) (count_of p m)) [
@@ -74,7 +74,7 @@ no_fault_all : (placed near again : Bool) → fault_of placed near again ≡ Non
 no_fault_all true true again e = (refl, refl)
 no_fault_all placed near again e = absurd cc
 
--- a pair of which is known that it is clear
+-- a pair that tests as clear is clear
 clear_in : (sectors : Sectors) (chunk number : ℕ) (row : Result (List ℕ) SectorFault) → sectors (row_sector chunk (number / 32)) ≡ row → is_clear_in row (number % 32) ≡ true → IsClear sectors chunk number
 clear_in sectors chunk number (Ok bytes) is clear =
     let here : Pair = pair_in bytes (number % 32) in
@@ -83,7 +83,7 @@ clear_in sectors chunk number (Ok bytes) is clear =
     record { row = bytes; read = is; zeros = a ∙ ap (λ (x : ℕ). let y : Pair = record { old = 0; new = x } in y) (eqb-true here.new 0 parts.1) }
 clear_in sectors chunk number (Err fault) is clear = absurd cc
 
--- so is each to the end of its area
+-- every pair from the end of the list to the end of its area is clear
 clear_all : (sectors : Sectors) (chunk count : ℕ) → (clear_count sectors chunk count == rest_count chunk count) ≡ true → (i : ℕ) → i < rest_count chunk count → IsClear sectors chunk (count + i)
 clear_all sectors chunk count whole i less =
     let p : ℕ → Bool = λ n. is_clear sectors chunk (count + n) in

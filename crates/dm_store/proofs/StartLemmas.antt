@@ -1,4 +1,4 @@
--- The state of all devices, from that of each; and which of them are snapshots.
+-- The state of all devices from the entry of each, and which devices are snapshots.
 use Rattle.dm_store.proofs.Prelude.{inl, inr, ℕ, zero, suc, Bool, true, false, cond, List, Option, Some, None, Result, Ok, Err, filter, get_or, length, take, refl, sym, ap, subst, ◌∙◌, arith, option_and_then, Contains, range_with_len, cases_lt, cases_order, get_or-set_other, get_or_default, get_or_past, All-get_or, le-suc_iff, take-suc, ResolvedLine, ResolvedSnapshot, ResolvedTarget, Description, lines_at, AreSnapshots, IsSnapshot, has_snapshot, snapshots, found_at, State, Taken, none_taken, put, taken_at, snapshot_of, StoreFault, DiskContents, start_of, state_of_first, store_if, taken_if, with_next}
 use Rattle.dm_stack.specs.declared.lines.resolved_line.ResolvedTarget.TheVariants as found
 use Rattle.std.specs.Prelude.{◌≡◌, ◌+◌, ◌<◌, ◌≤◌, ◌∷◌}
@@ -21,7 +21,7 @@ first_refused starts state d (suc n) fault less within each refused = elim (le-s
   | inr last ↦ let k : n ≡ d = omega (arith, last) in rw (k, all_started starts state d within each, refused) refl
 ]
 
--- ---- snapshots come in rising order
+-- ---- the ids of snapshots are in rising order
 
 after_by : (b : Bool) (a : ℕ) (rest : List ℕ) → ((k : ℕ) → k < length rest → a + 1 ≤ get_or rest k 0) → (i : ℕ) → i < length (cond b (a ∷ rest) rest) → a ≤ get_or (cond b (a ∷ rest) rest) i 0
 after_by true a rest all zero less = omega arith
@@ -44,7 +44,7 @@ picked_rising f a zero i j less within = absurd (omega (arith, within))
 picked_rising f a (suc n) i j less within =
     rising_by (f a) a (filter f (range_with_len (a + 1) n)) (picked_from f (a + 1) n) (λ k l. picked_rising f (a + 1) n k l) i j less within
 
--- a device between two neighbours is none of them, nor is one after the last
+-- a device between two neighbours of a rising list, or after its last, isn't in the list
 pub gap : (xs : List ℕ) (most next i : ℕ) → ((k j : ℕ) → k < j → j < length xs → get_or xs k 0 < get_or xs j 0) → ((k : ℕ) → k < next → k < length xs → get_or xs k 0 < i) → i < get_or xs next most → Contains xs i → ⊥
 gap xs most next i rising before below there =
     let k : ℕ = there.0 in
@@ -59,7 +59,7 @@ gap xs most next i rising before below there =
           omega (arith, up, next_at, below, at)
     ]
 
--- ---- a device that is no snapshot has nothing
+-- ---- a device that isn't a snapshot took nothing
 
 pub no_snapshot_in : (stack : Description) (disks : DiskContents) (device : ℕ) (line : Option ResolvedLine)
     → ((there : ResolvedLine) (snapshot : ResolvedSnapshot) → line ≡ Some there → there.target ≡ found.Snapshot snapshot → ⊥) → taken_if stack disks (store_if stack device (option_and_then (λ (l : ResolvedLine). snapshot_of l.target) line)) ≡ Ok none_taken
@@ -73,9 +73,9 @@ no_snapshot_in stack disks device (Some line) none = by_target line.target refl
 pub no_snapshot : (stack : Description) (disks : DiskContents) (devices : List ℕ) (device : ℕ) → AreSnapshots stack devices → (Contains devices device → ⊥) → start_of stack disks device ≡ Ok none_taken
 no_snapshot stack disks devices device are none = no_snapshot_in stack disks device (found_at stack device 0) (λ line snapshot is target. none (are.among device line snapshot is target))
 
--- ---- snapshots in their order
+-- ---- snapshots, in the order of their ids
 
--- devices that are snapshots, each before the next
+-- these devices are the snapshots of the stack, in rising order
 pub record InOrder (stack : Description) (devices : List ℕ) : Type 0 where
   pub are : AreSnapshots stack devices
   pub rising : (k j : ℕ) → k < j → j < length devices → get_or devices k 0 < get_or devices j 0
@@ -87,7 +87,7 @@ in_order stack devices is are = record {
       (picked_rising (λ device. has_snapshot (lines_at stack device)) 0 (length stack.devices));
 }
 
--- before the first there is none
+-- a device before the first snapshot took nothing
 pub none_before : (stack : Description) (disks : DiskContents) (devices : List ℕ) → InOrder stack devices → (i : ℕ) → i < get_or devices 0 (length stack.devices) → start_of stack disks i ≡ Ok none_taken
 none_before stack disks devices order i below =
     no_snapshot stack disks devices i order.are (gap devices (length stack.devices) 0 i order.rising (λ k less within. absurd (omega (arith, less))) below)
@@ -95,7 +95,7 @@ none_before stack disks devices order i below =
 pub snapshot_there : (stack : Description) (devices : List ℕ) (next : ℕ) → InOrder stack devices → next < length devices → get_or devices next 0 < length stack.devices
 snapshot_there stack devices next order within = (All-get_or (IsSnapshot stack) devices next 0 within order.are.each).there
 
--- the next comes after it
+-- the next snapshot comes after this one
 pub next_after : (stack : Description) (devices : List ℕ) (next : ℕ) → InOrder stack devices → next < length devices → get_or devices next 0 < get_or devices (next + 1) (length stack.devices)
 next_after stack devices next order within = elim (cases_lt (next + 1) (length devices)) [
   | inl more ↦
@@ -108,7 +108,7 @@ next_after stack devices next order within = elim (cases_lt (next + 1) (length d
       omega (arith, there, end)
 ]
 
--- one snapshot more, whose store was read
+-- the state once the next snapshot's store is read
 pub next_started : (stack : Description) (disks : DiskContents) (devices : List ℕ) (next snapshot : ℕ) (state new : State) → InOrder stack devices → next < length devices → get_or devices next 0 ≡ snapshot
     → ((i : ℕ) → i < get_or devices next (length stack.devices) → start_of stack disks i ≡ Ok (taken_at state i))
     → ((i : ℕ) → get_or devices next (length stack.devices) ≤ i → taken_at state i ≡ none_taken)

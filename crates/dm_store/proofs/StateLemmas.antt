@@ -1,4 +1,4 @@
--- The state that the stores of a stack hold is one that the stack can be in.
+-- The stack can be in the state that its stores hold.
 use Rattle.dm_store.proofs.Prelude.{inl, inr, ℕ, zero, suc, true, false, List, [], Option, Some, None, Result, Ok, get_or, length, refl, sym, ap, subst, ◌∙◌, arith, slice_index, AllByRecursion, IsDistinct, cases_Bool, cases_lt, le-leb, get_or_append_left, get_or_past, length-append, le-div_iff_mul-le, le-suc_iff, get_or-append_seam, true≢false, none-some, StoreKind, Transient, ResolvedSnapshot, IsSound, Description, device_len, lower_len, found_at, AreExact, AreOwnChunks, IsAmple, chunk_count, Values, AreOwn, IsFitting, State, Taken, none_taken, taken_at, snapshot_at, rows_in, line_there, snapshot_sound, chunk_inside, exact, StoreFault, StoreRefusal, Store, Fit, IsLostInStore, IsStart, DiskContents, Sectors, if_listing, snapshot_store, start_of, state_of_first, store_at, store_if, store_sectors, stored_state, taken_if, taken_in, with_next, Stored, Fresh, Lost, Holds, Refused, stored}
 use Rattle.dm_stack.proofs.StoreLayoutLemmas.{has_place}
 use Rattle.dm_store.proofs.SpeltLemmas.{is_spelled}
@@ -7,7 +7,7 @@ use Rattle.std.specs.Prelude.{◌≡◌, ◌+◌, ◌-◌, ◌*◌, ◌/◌, ◌
 
 -- ---- the state of the first devices
 
--- it is that of the devices before the last, and what the last took
+-- the state of the first devices is that of those before the last, and the entry of the last
 record IsLonger (before : Result State StoreRefusal) (next : Result Taken StoreFault) (state : State) : Type 0 where
   earlier : State
   taken : Taken
@@ -19,7 +19,7 @@ is_longer : (before : Result State StoreRefusal) (device : ℕ) (next : Result T
 is_longer (Ok earlier) device (Ok taken) state e = record { earlier = earlier; taken = taken; before_is = refl; next_is = refl; is = cc }
 is_longer before device next state e = absurd cc
 
--- each of them took what its start says
+-- each of the first devices took what its store holds
 pub record AreFirst (starts : ℕ → Result Taken StoreFault) (count : ℕ) (state : State) : Type 0 where
   pub all : length state ≡ count
   pub each : (device : ℕ) → device < count → starts device ≡ Ok (taken_at state device)
@@ -50,7 +50,7 @@ are_first starts (suc last) state e =
 pub ok_is : (a b : Taken) → (let r : Result Taken StoreFault = Ok a in r) ≡ Ok b → a ≡ b
 ok_is a b e = cc
 
--- chunks of the snapshot that a store is of, which fit it
+-- the chunks fit the store and are chunks of the snapshot's device
 record AreHeld (store : Store) (chunks : List ℕ) : Type 0 where
   fit : Fit store chunks
   near : (number : ℕ) → number < length chunks → slice_index chunks number ≤ store.last
@@ -59,7 +59,7 @@ none_held : (store : Store) → AreHeld store []
 unfolding IsDistinct
 none_held store = record { fit = record { places = omega arith; once = tt }; near = λ number less. absurd (omega (arith, less)) }
 
--- what a snapshot took by its store
+-- a snapshot's entry is what its store holds
 record IsTakenIn (sectors : Sectors) (store : Store) (taken : Taken) : Type 0 where
   held : AreHeld store taken.chunks
   lost : (taken.valid ≡ false) ↔ (stored sectors store ≡ Lost)
@@ -77,7 +77,7 @@ by_store sectors store (Holds chunks) taken is e =
     rw (← same) (record { held = record { fit = spelled.fit; near = spelled.near }; lost = (λ gone. absurd (true≢false gone), λ lost. absurd (let differ : Holds chunks ≡ Lost = sym is ∙ lost in cc)) })
 by_store sectors store (Refused fault) taken is e = absurd cc
 
--- what a device took by the store that is to be read, if there is one
+-- a device's entry is what its store holds, or nothing if there is no store to read
 record IsTakenBy (stack : Description) (disks : DiskContents) (device : ℕ) (taken : Taken) : Type 0 where
   none : store_at stack device ≡ None → taken.chunks ≡ []
   some : (store : Store) → store_at stack device ≡ Some store → AreHeld store taken.chunks
@@ -103,7 +103,7 @@ taken_by stack disks device (Some store) taken is e =
       );
     }
 
--- ---- so its state fits
+-- ---- the stack can be in the state
 
 listing : (kind : StoreKind) (store : Store) → (if_listing kind store ≡ None) ⊎ (if_listing kind store ≡ Some store)
 listing Transient store = inl refl
@@ -171,7 +171,7 @@ stored_fits stack disks state sound e =
       };
     }
 
--- ---- rows from there on
+-- ---- what devices read as from then on
 
 pub stored_own : {V : Type 0} (zeros : V) (stack : Description) (disks : DiskContents) (state : State) (values : Values V) → IsSound stack → stored_state stack disks ≡ Ok state → AreOwn zeros stack state values (rows_in zeros stack state values)
 stored_own zeros stack disks state values sound e = record { fits = (stored_fits stack disks state sound e).fits; tops = λ top sector is_top. inl refl }

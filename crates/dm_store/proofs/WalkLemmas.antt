@@ -1,20 +1,20 @@
--- What the reader knows of a list where it stops, and after one more pair.
+-- What the reader knows about a list when it stops, and after one more pair.
 use Rattle.dm_store.proofs.Prelude.{ℕ, Bool, true, false, List, [], Option, Some, None, Result, Ok, Err, refl, sym, ap, subst, ◌∙◌, arith, is_some, eq-eqb, ne_eqb, div-add-mod', mul-le-mul_right, SectorFault, ListFault, Range, Unread, Pair, Store, Sectors, each, pair, pair_in, old_chunks, bytes_or_none, area_count, row_sector, pair_count, rest_count, IsPair, Walked, next_fault, Stored, Refused, ended, ended_by, is_any_again, is_clear, is_clear_in, list_fault, is_listed, is_near, is_placed, list_count, listed, of_count, of_list, rest_fault, number_in}
 use Rattle.dm_store.proofs.ListLemmas.{count_full, count_stop, each_more, fault_more, old_more}
 use Rattle.std.specs.Prelude.{◌≡◌, ◌+◌, ◌*◌, ◌/◌, ◌%◌, ◌<◌, ◌≤◌, ◌∷◌, ◌++◌}
 
--- where a list has a fault, what was taken of it doesn't matter
+-- if a list has a fault, the chunks taken from it make no difference
 of_same : (f : Option ListFault) (a b : List ℕ) → (f ≡ None → a ≡ b) → of_list f a ≡ of_list f b
 of_same None a b same = ap (of_list None) (same refl)
 of_same (Some x) a b same = refl
 
--- what the code knows is what the definition says of this many pairs
+-- what the reader knows after some pairs is what the definition says for that many
 pub of_walked : (sectors : Sectors) (store : Store) (number : ℕ) (f : Option ListFault) (chunks : List ℕ) → Walked sectors store number f chunks
     → of_list f chunks ≡ of_list (list_fault store (pair sectors store.chunk) number) (old_chunks (pair sectors store.chunk) number)
 of_walked sectors store number f chunks walked =
     of_same f chunks (old_chunks (pair sectors store.chunk) number) walked.taken ∙ ap (λ (x : Option ListFault). of_list x (old_chunks (pair sectors store.chunk) number)) walked.faulty
 
--- the definition at a length: all areas are full, or the pair after the list is there, or can't be read
+-- what the definition says for a list that fills all areas
 pub count_all : (sectors : Sectors) (store : Store) → of_count sectors store (pair_count store.chunk store.len)
     ≡ of_list (list_fault store (pair sectors store.chunk) (pair_count store.chunk store.len)) (old_chunks (pair sectors store.chunk) (pair_count store.chunk store.len))
 count_all sectors store = rw (eq-eqb (pair_count store.chunk store.len) (pair_count store.chunk store.len) refl) refl
@@ -43,14 +43,14 @@ stopped_list sectors store number f chunks walked less free =
     ∙ count_less sectors store number less
     ∙ ap (ended sectors store.chunk number) (sym (of_walked sectors store number f chunks walked))
 
--- a pair of a sector that is known
+-- a pair whose sector was read
 pub pair_known : (sectors : Sectors) (chunk number : ℕ) (block : List ℕ) → sectors (row_sector chunk (number / 32)) ≡ Ok block → pair sectors chunk number ≡ pair_in block (number % 32)
 pair_known sectors chunk number block is = ap (λ (r : Result (List ℕ) SectorFault). pair_in (bytes_or_none r) (number % 32)) is
 
 pub pair_unread : (sectors : Sectors) (chunk number : ℕ) (fault : SectorFault) → sectors (row_sector chunk (number / 32)) ≡ Err fault → is_listed (pair sectors chunk number) ≡ false
 pair_unread sectors chunk number fault is = ap (λ (r : Result (List ℕ) SectorFault). is_listed (pair_in (bytes_or_none r) (number % 32))) is
 
--- the rest of the area of a list: clear to its end, or up to a pair that isn't
+-- the rest of the area after a list: all zero pairs, or up to one that isn't
 pub rest_clear : (sectors : Sectors) (chunk number : ℕ) (list : Stored) → each (λ i. is_clear sectors chunk (number + i)) (rest_count chunk number) ≡ true → ended sectors chunk number list ≡ list
 rest_clear sectors chunk number list all =
     let most : ℕ = rest_count chunk number in
@@ -65,14 +65,14 @@ rest_stops sectors chunk number next row list clear less is other =
     ap (λ (n : ℕ). ended_by sectors chunk number n list) (count_stop (λ i. is_clear sectors chunk (number + i)) next most clear stop (omega (arith, less)))
     ∙ rw (ne_eqb next most before) (ap (λ (r : Result (List ℕ) SectorFault). Refused (rest_fault r)) is)
 
--- a list that stops before the last area's end has a rest
+-- a list that ends within an area has pairs left in the area
 pub rest_some : (chunk store_len number : ℕ) → number < pair_count chunk store_len → 0 < rest_count chunk number
 rest_some chunk store_len number inside =
     let some : 0 < 32 * chunk = grind (arith, inside) in
     let less : number % (32 * chunk) < 32 * chunk = grind (arith, some) in
     omega (arith, less)
 
--- and its pairs are those of the areas
+-- the pairs left in the area after a list are pairs of the store's areas
 pub rest_inside : (chunk store_len number next : ℕ) → number < pair_count chunk store_len → next < rest_count chunk number → number + next < pair_count chunk store_len
 rest_inside chunk store_len number next inside less =
     let areas : ℕ = area_count chunk store_len in let most : ℕ = 32 * chunk in
@@ -98,14 +98,14 @@ unread_list sectors store number f chunks fault walked less is =
     sym (stopped_list sectors store number f chunks walked less (pair_unread sectors store.chunk number fault is)
     ∙ rest_stops sectors store.chunk number 0 (Err fault) (of_list f chunks) refl (rest_some store.chunk store.len number less) unread refl)
 
--- without a fault now there was none before
+-- a list without a fault had none before its last pair
 pub no_fault_before : (p n a : Bool) (f : Option ListFault) → next_fault p n a f ≡ None → f ≡ None
 no_fault_before p n a None e = refl
 no_fault_before true false a (Some Range) e = absurd cc
 no_fault_before true true a (Some Range) e = absurd cc
 no_fault_before p n a f e = absurd cc
 
--- and with one it doesn't matter what was taken
+-- if a list has a fault, the chunks taken make no difference to the next one
 next_same : (p n a b : Bool) (f : Option ListFault) → (f ≡ None → a ≡ b) → next_fault p n a f ≡ next_fault p n b f
 next_same p n a b None same = ap (λ (x : Bool). next_fault p n x None) (same refl)
 next_same true false a b (Some Range) same = refl

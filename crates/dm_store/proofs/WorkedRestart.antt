@@ -1,4 +1,4 @@
--- A restart worked by hand, against which the definitions are checked.
+-- An example of a restart that checks the definitions, worked out by hand.
 use Rattle.dm_store.proofs.Prelude.{ℕ, zero, suc, true, false, [], Option, Some, Ok, refl, sym, ap, subst, ◌∙◌, arith, All-from_recursion, Persistent, Device, Disk, ResolvedSnapshot, IsTop, claims, Description, found_at, Moment, content, played, sector_past, HaveSameData, IsSpareSector, first_rows, State, start_state, taken_at, home_to, write_step, read_unit, Store, DiskContents, count_of, each, old_chunks, AreListed, Event, Held, IsRestart, Lists, Plays, Spelled, after_events, kept, kept_first, snapshot_store, store_at, store_sectors, stored_state, Holds, is_any_again, stored}
 use Rattle.dm_table.specs.declared.requests.request.Op.TheVariants.{Write}
 use Rattle.dm_table.specs.declared.tables.table.DevRef.TheVariants as refs
@@ -10,7 +10,7 @@ use Rattle.dm_store.proofs.SpeltLemmas.{is_spelled}
 use Rattle.dm_store.proofs.WorkedStore.{entry, header}
 use Rattle.std.specs.Prelude.{◌≡◌, ◌∷◌, ◌++◌}
 
--- s: a snapshot of disk 0 in chunks of one sector. Its store is disk 1, with room for two areas: the header, area 0, 32 places, area 1, and 29 places
+-- s: a snapshot of disk 0 with chunks of one sector. Its store is disk 1, with room for two areas: the header, area 0, 32 places, area 1, and 29 places
 abbrev sample : Description
 sample = record {
   devices = device 115 false (line 0 40 (targets.Snapshot (refs.Disk (48 ∷ [])) (refs.Disk (49 ∷ [])) Persistent 1) ∷ []) ∷ [];
@@ -23,7 +23,7 @@ over = record { origin = Disk 0; store = Disk 1; kind = Persistent; chunk = 1 }
 abbrev store : Store
 store = snapshot_store sample 0 over
 
--- each sector holds its number
+-- disks on which every sector holds its number
 abbrev numbered : DiskContents
 numbered disk sector = Ok (sector ∷ [])
 
@@ -33,14 +33,14 @@ zeros = Ok []
 abbrev first : Moment Held
 first = record { values = numbered; state = start_state sample; rows = first_rows zeros sample numbered }
 
--- a write of sectors 7 to 9, each of which is written with 100. Each takes a chunk: it is copied, and then written. The power is cut before the last is written
+-- a write of the value 100 to sectors 7 to 9. Each sector takes a chunk, which is copied and then written. The power is cut before the last one is written
 abbrev cut : Event
 cut = Plays (record { op = Write; device = 0; start = 7; len = 3; written = λ sector. Ok (100 ∷ []); halted_after = Some 5 })
 
 abbrev left : Moment Held
 left = after_events zeros sample first (cut ∷ [])
 
--- two chunks are taken
+-- the state at the cut: chunks 7 and 8 are taken
 abbrev taken : State
 taken = record { chunks = 7 ∷ 8 ∷ []; valid = true } ∷ []
 
@@ -48,7 +48,7 @@ left_is : left.state ≡ taken
 unfolding after_events sector_past write_step read_unit home_to lib.Count.ones
 left_is = refl
 
--- the store lists them: its header, and the first sector of area 0
+-- disks on which the store lists both chunks: in its header, and in the first sector of area 0
 abbrev listed : DiskContents → DiskContents
 listed disks (suc zero) zero = Ok (header 1)
 listed disks (suc zero) (suc zero) = Ok (entry 7 2 ++ entry 8 3 ++ entry 0 0)
@@ -77,7 +77,7 @@ lists disks = λ device other of. by_device device other of
         (Spelled refl (is_spelled store (store_sectors sample (listed disks) store) (7 ∷ 8 ∷ []) (says disks)))
     by_device (suc device) other of = absurd (let there = store_there sample (suc device) other (found_at sample (suc device) 0) refl of in omega (arith, there))
 
--- where there is no data
+-- sectors without data
 spare_header : IsSpareSector sample taken 1 0
 unfolding home_to lib.Count.ones
 spare_header = record { device = 0; snapshot = over; over = refl; at = 0; inside = omega arith; free = λ number less same. omega (arith, same); home = refl }
@@ -113,11 +113,11 @@ restart = record {
   rows = refl;
 }
 
--- it is found
+-- reading the store gives the state at the cut
 found : stored_state sample new.values ≡ Ok taken
 found = listed_back sample new.values taken (lists left.values) ∙ ap (λ (s : State). Ok s) kept_taken
 
--- what was written is read, and what was only copied as it was
+-- the written sector reads as 100, and a sector that was only copied reads as before
 read_written : content zeros sample new.state new.values (Device 0) 8 ≡ Some (Ok (100 ∷ []))
 unfolding after_events played sector_past write_step read_unit home_to lib.Count.ones
 read_written = refl

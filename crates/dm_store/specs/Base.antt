@@ -1,4 +1,4 @@
--- The words of std and of the crates below that this crate cites, and its types, from one place.
+-- Names of std and of lower crates that the specs of dm_store import, gathered in one module.
 pub use Rattle.dm_map.specs.Prelude.{AreExact, AreOwn, Due, HaveSameData, IsAmple, IsFitting, IsIntact, IsOfSnapshot, IsOwnAt, Moment, State, Taken, TookOwn, Values, after_asked, has_room, home, lost, none_taken, number_in, put, rows_in, snapshot_at, taken_at}
 unfoldable pub use Rattle.dm_map.specs.Prelude.{played, take_chunks}
 pub use Rattle.dm_stack.specs.Prelude.{Description, IsStore, IsTidy, IsTop, device_len, is_same, lower_len, path_faults, place, place_count}

@@ -1,4 +1,4 @@
--- The words that contracts cite, here and in crates above, from one place.
+-- Names that contracts import, in dm_store and in the crates above it, gathered in one module.
 pub use Rattle.dm_map.specs.Prelude.{GoOn, IsWithinPlaces, start_state, with_chunk, with_looked}
 pub use Rattle.dm_stack.specs.Prelude.{IsSnapshot, name_at}
 pub use Rattle.dm_store.specs.Base.{Description, Err, List, None, Ok, Some, [], find, home, is_same, is_some, length, map, none_taken, number_in, option_map, put, slice_range, string_bytes, taken_at, true, ℕ}

@@ -1,16 +1,16 @@
--- What a log of reads says of images.
+-- What a log of reads tells about images.
 use Rattle.dm_store.specs.Base.{ℕ, List, [], drop, take}
 use Rattle.dm_store.specs.declared.asked.Asked.{Asked}
 use Rattle.dm_store.specs.Images.{AreRead, Contents}
 use Rattle.std.specs.Prelude.{◌+◌, ◌∷◌}
 
--- reads, with the bytes of their paths in a row, and those that they gave
+-- the reads that were made, with all their paths joined and all bytes that they returned joined
 pub record Logged : Type 0 where
   pub asked : List Asked
   pub paths : List ℕ
   pub given : List ℕ
 
--- how many bytes these have
+-- the number of bytes in the paths of these reads
 unfoldable pub path_total : List Asked → ℕ
 path_total [] = 0
 path_total (first ∷ later) = first.path_len + path_total later
@@ -19,7 +19,7 @@ unfoldable pub given_total : List Asked → ℕ
 given_total [] = 0
 given_total (first ∷ later) = first.len + given_total later
 
--- contents agree with each read of a log
+-- the images, holding these contents, would give every read of the log the result that it had
 unfoldable pub Agrees : Contents → List Asked → (paths given : List ℕ) → Type 0
 Agrees held [] paths given = Unit {0}
 Agrees held (first ∷ later) paths given =

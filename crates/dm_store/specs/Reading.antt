@@ -1,4 +1,4 @@
--- What the reader knows on its way.
+-- What the reader of stores knows while it reads.
 use Rattle.dm_store.specs.Base.{ℕ, Bool, true, not, List, Option, Some, None, Result, Ok, Err, length, nat_lt, IsStore, Description, lower_len, has_room, ListFault, Order, Range, Again, SectorFault, StoreFault, Pair, Store}
 use Rattle.dm_store.specs.declared.header.Header.{Header}
 use Rattle.dm_store.specs.declared.header.Header.TheVariants as headers
@@ -9,22 +9,22 @@ use Rattle.dm_store.specs.Pairs.{Sectors, pair, pair_in, each, old_chunks}
 use Rattle.dm_store.specs.Stored.{Stored, Fresh, Lost, Refused, is_listed, list_fault}
 use Rattle.std.specs.Prelude.{◌≡◌, ◌+◌, ◌/◌, ◌%◌, ◌<◌, ◌≤◌, ◌^◌, if◌then◌else◌}
 
--- a store that lies in a stack
+-- the store is one that the stack allows, with its length in sectors, at least one
 pub record IsStoreIn (stack : Description) (store : Store) : Type 0 where
   pub lower : IsStore stack store.lower
   pub some : 1 ≤ store.len
   pub len : store.len ≡ lower_len stack store.lower
   pub short : store.len ≤ 2 ^ 50
 
--- the store of a device of a stack
+-- the store of the snapshot that this device is, with the right number of places
 pub record IsStoreOf (stack : Description) (device : ℕ) (store : Store) : Type 0 where
   pub there : device < length stack.devices
   pub lies : IsStoreIn stack store
   pub room : (number : ℕ) → nat_lt number store.places ≡ has_room stack device number
 
--- ---- faults, as they are found
+-- ---- the fault of a list, pair by pair
 
--- the fault after one more pair, by the fault before it
+-- the fault so far, or that this pair repeats a chunk
 abbrev pub next_again : (again : Bool) → Option ListFault → Option ListFault
 next_again again (Some fault) = Some fault
 next_again again None = if again then Some Again else None
@@ -38,45 +38,45 @@ next_fault placed near again fault = if not placed then Some Order else next_nea
 
 -- ---- rows
 
--- a block has these rows of a list
+-- the block holds these rows of the list, as read from their sectors
 abbrev pub HasRows : Sectors → (chunk : ℕ) → RowRange → (block : List ℕ) → Type 0
 HasRows sectors chunk rows block = (i : ℕ) → i < rows.count → sectors (row_sector chunk (rows.first + i)) ≡ Ok (sector_in block i)
 
--- the pair of a number, by the row that has it
+-- the pair with this number in the list, taken from the row that holds it
 pub record IsPair (sectors : Sectors) (chunk number : ℕ) (pair : Pair) : Type 0 where
   pub row : List ℕ
   pub read : sectors (row_sector chunk (number / 32)) ≡ Ok row
   pub is : pair ≡ pair_in row (number % 32)
 
--- what is known after the pair of a number was to be read, of the rows that a block had and has
+-- after the attempt to read the pair with this number: which rows the block holds now and what the pair is, or why its sector can't be read
 abbrev pub HasRead : Sectors → (chunk number : ℕ) → (old : RowRange) → (had : List ℕ) → Result Pair SectorFault → (new : RowRange) → (has : List ℕ) → Type 0
 HasRead sectors chunk number old had (Ok pair) new has = HasRows sectors chunk old had → HasRows sectors chunk new has × IsPair sectors chunk number pair
 HasRead sectors chunk number old had (Err fault) new has = sectors (row_sector chunk (number / 32)) ≡ Err fault
 
--- a row is one of them
+-- the row is one of this range of rows
 abbrev pub IsRowOf : RowRange → (row : ℕ) → Type 0
 IsRowOf rows row = (rows.first ≤ row) × (row < rows.first + rows.count)
 
--- ---- what was told
+-- ---- what is reported
 
--- of a list, where this is what it holds unless it is refused
+-- what a store holds by the reader's result for its list: held, or refused with the reader's fault
 abbrev pub told_list : Result (Unit {0}) StoreFault → (held : Stored) → Stored
 told_list (Ok done) held = held
 told_list (Err fault) held = Refused fault
 
--- of a header: a store in use holds what its list says
+-- what a store holds by the reader's result for its header; for a store in use, what its list says
 abbrev pub told_header : (used : Stored) → Result Header StoreFault → Stored
 told_header used (Ok headers.Fresh) = Fresh
 told_header used (Ok headers.Lost) = Lost
 told_header used (Ok headers.Used) = used
 told_header used (Err fault) = Refused fault
 
--- of a store, and of all
+-- the value that was reached if the reader succeeded, else its fault
 abbrev pub told : {X F : Type 0} → Result (Unit {0}) F → X → Result X F
 told (Ok done) reached = Ok reached
 told (Err fault) reached = Err fault
 
--- what holds of a list when the first pairs of it were read
+-- what is known after the first pairs of the list: all are in use, the fault so far, and if there is none, the chunks taken
 pub record Walked (sectors : Sectors) (store : Store) (number : ℕ) (fault : Option ListFault) (chunks : List ℕ) : Type 0 where
   pub so_far : each (λ i. is_listed (pair sectors store.chunk i)) number ≡ true
   pub faulty : fault ≡ list_fault store (pair sectors store.chunk) number

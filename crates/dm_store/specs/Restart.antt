@@ -1,4 +1,4 @@
--- A restart: the power was cut in the midst of requests of top devices, and the stores are read again.
+-- A restart: power is cut in the midst of requests to top devices, and then the stores are read again.
 use Rattle.dm_store.specs.Base.{ℕ, zero, suc, true, false, List, [], Option, Some, None, Result, Ok, length, AllByRecursion, Transient, ResolvedSnapshot, IsTidy, IsTop, Description, AreExact, HaveSameData, IsAmple, IsOfSnapshot, IsOwnAt, Moment, after_asked, played, take_chunks, Due, State, Taken, lost, none_taken, put, taken_at, snapshot_at, SectorFault, Store}
 use Rattle.dm_map.specs.Prelude.{Asked}
 use Rattle.dm_store.specs.Fitting.{IsLostInStore}
@@ -11,58 +11,58 @@ use Rattle.std.specs.Prelude.{◌≡◌, ◌≢◌, ◌<◌, ◌∷◌, ◌++◌
 
 -- ---- what stores keep of a state
 
--- the header of a store whose snapshot is lost
+-- a store's header that marks the snapshot as lost: it has the magic, the version and the chunk size, and is not valid
 pub record IsGone (chunk : ℕ) (header : List ℕ) : Type 0 where
   pub magic : four_at header 0 ≡ 0x70416e53
   pub valid : four_at header 4 ≡ 0
   pub version : four_at header 8 ≡ 1
   pub chunk_len : four_at header 12 ≡ chunk
 
--- the sectors of a store say what its snapshot took: they spell its chunks, or nothing was written there yet, or they say that it is lost
+-- the store's sectors agree with what its snapshot took: they list its chunks, or are unused while it took none, or mark it as lost
 pub data Lists (sectors : Sectors) (store : Store) (taken : Taken) : Type 0 where
   Spelled : taken.valid ≡ true → Spells sectors store taken.chunks → Lists sectors store taken
   Unused : (header : List ℕ) → sectors 0 ≡ Ok header → four_at header 0 ≡ 0 → taken ≡ none_taken → Lists sectors store taken
   Gone : (header : List ℕ) → sectors 0 ≡ Ok header → IsGone store.chunk header → taken.valid ≡ false → Lists sectors store taken
 
--- each store that keeps a list says what its snapshot took
+-- every store that keeps a list agrees with what its snapshot took
 abbrev pub AreListed : Description → DiskContents → State → Type 0
 AreListed stack disks state = (device : ℕ) (store : Store) → store_at stack device ≡ Some store → Lists (store_sectors stack disks store) store (taken_at state device)
 
--- what is read of what a snapshot took: of a lost one only that it is lost, and nothing where no list is kept
+-- the part of a snapshot's entry that a restart reads back: of a lost snapshot only that it is lost, and nothing from a store without a list
 abbrev pub kept_in : Option Store → Taken → Taken
 kept_in None taken = none_taken
 kept_in (Some store) taken = if taken.valid then taken else lost none_taken
 
--- of the first devices
+-- the part of the entries of the first devices that a restart reads back
 unfoldable pub kept_first : Description → State → (count : ℕ) → State
 kept_first stack state zero = []
 kept_first stack state (suc device) = kept_first stack state device ++ kept_in (store_at stack device) (taken_at state device) ∷ []
 
--- what is read of a state, of all devices
+-- the part of a state that a restart reads back
 abbrev pub kept : Description → State → State
 kept stack state = kept_first stack state (length stack.devices)
 
--- each snapshot has a store that keeps a list
+-- every snapshot has a store that keeps a list, so none is transient
 abbrev pub AllKeepLists : Description → Type 0
 AllKeepLists stack = (device : ℕ) (snapshot : ResolvedSnapshot) → snapshot_at stack device ≡ Some snapshot → snapshot.kind ≢ Transient
 
--- what is read of each store is what is kept of what its snapshot took
+-- for every store with a list, the state found has what a restart reads back of the state left
 abbrev pub AreKept : Description → (left found : State) → Type 0
 AreKept stack left found = (device : ℕ) (store : Store) → store_at stack device ≡ Some store → taken_at found device ≡ kept_in (Some store) (taken_at left device)
 
 -- ---- what a power cut leaves
 
--- what a sector of a disk holds, or why it can't be read
+-- the bytes of a disk's sector, or why it can't be read
 abbrev pub Held : Type 0
 Held = Result (List ℕ) SectorFault
 
--- what comes before a cut: a request that is played to its end or halted, chunks that are taken ahead of the writes that take them, and a snapshot that is lost for whatever reason a kernel has: no place, an error, no memory, no room for the next area
+-- an event before a cut: a request, completed or halted; chunks taken ahead of writes; or a snapshot lost, for any reason that a kernel has (a full store, an error, no memory, no room for the next area)
 pub data Event : Type 0 where
   Plays : Asked Held → Event
   Ahead : (chunks : List Due) → Event
   Loses : (device : ℕ) → Event
 
--- after one
+-- the moment after one more event
 abbrev pub after_event : (zeros : Held) → Description → Moment Held → Event → Moment Held
 after_event zeros stack moment (Plays asked) = after_asked zeros stack moment asked
 after_event zeros stack moment (Ahead chunks) = record {
@@ -72,12 +72,12 @@ after_event zeros stack moment (Ahead chunks) = record {
 }
 after_event zeros stack moment (Loses device) = record { values = moment.values; state = put moment.state device (lost (taken_at moment.state device)); rows = moment.rows }
 
--- after some, in their order
+-- the moment after these events, in order
 unfoldable pub after_events : (zeros : Held) → Description → Moment Held → List Event → Moment Held
 after_events zeros stack moment [] = moment
 after_events zeros stack moment (event ∷ later) = after_events zeros stack (after_event zeros stack moment event) later
 
--- a request is for a top device, and a chunk and a loss for a device of the stack
+-- the request is for a top device; chunks taken ahead, and a snapshot lost, are of devices in the stack
 abbrev pub IsOfTop : Description → Event → Type 0
 IsOfTop stack (Plays asked) = IsTop stack asked.device
 IsOfTop stack (Ahead chunks) = AllByRecursion (IsOfSnapshot stack) chunks
@@ -85,7 +85,7 @@ IsOfTop stack (Loses device) = device < length stack.devices
 
 -- ---- restarts
 
--- a restart after such events, which took place, and a cut: lists say the state of the cut, what they keep of it is the state from there on, and the disks hold the data of that
+-- new is a moment after a restart: after some events and a cut, the lists agree with the state at the cut, the state is what they keep of that, and the disks hold the same in all sectors with data
 pub record IsRestart (zeros : Held) (stack : Description) (old new : Moment Held) : Type 0 where
   pub events : List Event
   pub tops : AllByRecursion (IsOfTop stack) events
@@ -94,40 +94,40 @@ pub record IsRestart (zeros : Held) (stack : Description) (old new : Moment Held
   pub state : new.state ≡ kept stack (after_events zeros stack old events).state
   pub rows : new.rows ≡ (after_events zeros stack old events).rows
 
--- the stores, read again, hold this state, and in it each top device has its row, or errors
+-- the stores hold the moment's state, and each sector of a top device reads as its row says, or as an error
 pub record IsFound (zeros : Held) (stack : Description) (moment : Moment Held) : Type 0 where
   pub found : stored_state stack moment.values ≡ Ok moment.state
   pub own : IsOwnAt zeros stack moment
 
--- lists that say a state are read as what they keep of it
+-- if the lists agree with a state, reading the stores gives what a restart reads back of it
 abbrev pub AreListsRead : Description → Type 0
 AreListsRead stack = (disks : DiskContents) (state : State) → AreListed stack disks state → stored_state stack disks ≡ Ok (kept stack state)
 
--- stores list a state where what they hold is what lists keep of it
+-- if reading the stores gives what a restart would read back of a state, the lists agree with that state
 abbrev pub AreListsSaid : Description → Type 0
 AreListsSaid stack = (disks : DiskContents) (left found : State) → stored_state stack disks ≡ Ok found → AreKept stack left found → AreListed stack disks left
 
--- disks hold what others do, and more
+-- every sector that the first disks can read, the others can read with equal bytes
 abbrev pub HoldMore : (disks others : DiskContents) → Type 0
 HoldMore disks others = (disk sector : ℕ) (bytes : List ℕ) → disks disk sector ≡ Ok bytes → others disk sector ≡ Ok bytes
 
--- what disks list, disks that hold more list, too
+-- if the lists agree with a state, they still do on disks with more readable sectors
 abbrev pub AreListsEnough : Description → Type 0
 AreListsEnough stack = (disks others : DiskContents) (state : State) → HoldMore disks others → AreListed stack disks state → AreListed stack others state
 
--- where no claims meet, a restart finds its state, and in it each top device has its row, or errors
+-- if no claims clash, reading the stores after a restart gives the state, and each sector of a top device reads as its row says, or as an error
 abbrev pub IsAlwaysFound : Description → Type 0
 IsAlwaysFound stack = (zeros : Held) (old new : Moment Held) → IsTidy stack → AllKeepLists stack → IsOwnAt zeros stack old → IsRestart zeros stack old new → IsFound zeros stack new
 
--- what was found is exact where the stack can lose nothing, and no store says that its snapshot is lost: each top device has its row, without errors
+-- on an ample stack where no store says that its snapshot is lost, each sector of a top device reads as its row says after a restart
 abbrev pub IsAlwaysExact : Description → Type 0
 IsAlwaysExact stack = (zeros : Held) (moment : Moment Held) → IsAmple stack → IsFound zeros stack moment → ((device : ℕ) → IsLostInStore stack moment.values device → ⊥) → AreExact zeros stack moment.state moment.values moment.rows
 
--- restarts one after the other
+-- the moments after restarts, each of which follows the one before
 unfoldable pub AreRestarts : (zeros : Held) → Description → Moment Held → List (Moment Held) → Type 0
 AreRestarts zeros stack old [] = Unit {0}
 AreRestarts zeros stack old (new ∷ later) = IsRestart zeros stack old new × AreRestarts zeros stack new later
 
--- each of any number of restarts finds its state, and in it each top device has its row, or errors
+-- after any number of restarts, the stores hold the state, and each sector of a top device reads as its row says, or as an error
 abbrev pub AreAllFound : Description → Type 0
 AreAllFound stack = (zeros : Held) (first : Moment Held) (later : List (Moment Held)) → IsTidy stack → AllKeepLists stack → IsOwnAt zeros stack first → AreRestarts zeros stack first later → AllByRecursion (IsFound zeros stack) later

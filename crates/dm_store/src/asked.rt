@@ -1,9 +1,9 @@
-//! A read of an image, as a log has it.
+//! A read of an image, as a log of reads stores it.
 
 use crate::images::ReadFault;
 
-/// A read from a sector on: the line of its image, how many bytes its path has, how many it asked for, and what became
-/// of it.
+/// A read of sectors from `sector` on: the image's line in the list, the length of its path in bytes, the bytes
+/// asked for, and whether the read succeeded.
 #[derive(Clone, Copy, Debug, Drop)]
 pub struct Asked {
     pub line: u64,

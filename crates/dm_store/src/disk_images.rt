@@ -1,4 +1,4 @@
-//! Which image each disk of a stack lies in.
+//! Which image file each disk of a stack is in.
 
 ghost use Rattle.dm_store.specs.Prelude.{None, Some, IfNone, IfSome, length, AreRead, Contents, disk_contents, place_of};
 ghost use Rattle.dm_store.specs.declared.images.TheConstants.{MOST_BYTES, SECTOR};
@@ -10,7 +10,7 @@ use crate::images::{Images, ReadFault};
 use dm_stack::DiskId;
 use std::marker::Model;
 
-/// For each disk of a stack, by its id, the image that it lies in, if one is named.
+/// For each disk of a stack, by its id, the image that it is in, if there is one.
 #[derive(Debug, Drop)]
 pub struct DiskImages {
     places: Vec<Option<ImagePlace>>,
@@ -26,14 +26,14 @@ impl Model for DiskImages {
 }
 
 impl DiskImages {
-    /// The images of disks by their ids. No memory is taken.
+    /// Makes a value from the images of all disks, in the order of their ids. No memory is allocated.
     pub(crate) fn of_places(places: Vec<Option<ImagePlace>>) -> DiskImages
         ensures { result ≡ places.items }
     {
         DiskImages { places }
     }
 
-    /// The image that a disk lies in, if one is named.
+    /// The image that a disk is in, if there is one.
     fn place(&self, disk: DiskId) -> Option<&ImagePlace>
         ensures some { IfSome result (λ place. place_of self.now disk ≡ Some place.now) }
         ensures none { IfNone result (place_of self.now disk ≡ None) }
@@ -44,7 +44,7 @@ impl DiskImages {
         }
     }
 
-    /// Reads whole sectors of a disk, from a sector of it on. After a fault the slice may hold anything.
+    /// Reads whole sectors of a disk, from `sector` on. After a fault, `into` may hold anything.
     pub fn read<I: Images>(
         &self,
         images: &mut I,

@@ -1,45 +1,45 @@
-//! Why a store is refused.
+//! Why an exception store is refused.
 
 use dm_stack::DeviceId;
 
 /// Why a sector of a disk can't be read.
 #[derive(Clone, Copy, Debug, PartialEq, Eq, Drop)]
 pub enum SectorFault {
-    /// No image is named for the disk.
+    /// No image is given for the disk.
     Missing,
-    /// The image can't be opened or read, or ends before.
+    /// The image can't be opened or read, or ends before the sector does.
     Read,
 }
 
 /// Why the list of a store is refused. The pairs of a list are numbered from 0.
 #[derive(Clone, Copy, Debug, PartialEq, Eq, Drop)]
 pub enum ListFault {
-    /// A pair has another new chunk than the place of its number, or the store has no such place.
+    /// A pair's store chunk isn't the one that belongs to its number, or the store has no such chunk.
     Order,
-    /// The old chunk of a pair is past the snapshot's end.
+    /// A pair's snapshot chunk is past the end of the snapshot.
     Range,
-    /// The old chunk of a pair is that of an earlier one.
+    /// A pair's snapshot chunk is that of an earlier pair.
     Again,
 }
 
 /// Why a store is refused.
 #[derive(Clone, Copy, Debug, PartialEq, Eq, Drop)]
 pub enum StoreFault {
-    /// Its header can't be read, or a sector of the areas that its list fills or ends in.
+    /// The header can't be read, or a sector of the metadata areas that the list fills or ends in.
     Unread(SectorFault),
-    /// It is no store: its first number is neither the magic one nor 0.
+    /// The header is not one of a store: its first number is neither the magic number nor 0.
     Magic,
-    /// Its version is another than 1.
+    /// The version in the header isn't 1.
     Version,
-    /// Its chunks are of another size than the table says.
+    /// The chunk size in the header isn't the one in the table.
     Chunk,
-    /// Its list has a gap: what comes after it in its area isn't zeros.
+    /// The list has a gap: the rest of the metadata area after it isn't all zeros.
     Gap,
-    /// Its list is refused.
+    /// A pair of the list is wrong.
     Listed(ListFault),
 }
 
-/// The store of a snapshot that is refused.
+/// A refusal: which snapshot's store is refused, and why.
 #[derive(Clone, Copy, Debug, PartialEq, Eq, Drop)]
 pub struct StoreRefusal {
     pub snapshot: DeviceId,

@@ -1,4 +1,4 @@
-//! The header of a store.
+//! The header of an exception store.
 
 ghost use Rattle.dm_store.specs.Prelude.{Ok, length, told_header, Stored, by_header};
 ghost use Rattle.dm_store.specs.declared.images.TheConstants.{SECTOR};
@@ -7,24 +7,24 @@ ghost use Rattle.std.specs.Prelude.{◌≡◌};
 use crate::fault::StoreFault;
 use crate::numbers::four;
 
-/// `SnAp`.
+/// The first number of a header: the bytes `SnAp`.
 const MAGIC: u32 = 0x7041_6e53;
 
-/// The version that is read.
+/// The only version of the format that is read.
 const VERSION: u32 = 1;
 
-/// What the header of a store says.
+/// What a header says about its store.
 #[derive(Clone, Copy, Debug, PartialEq, Eq, Drop)]
 pub(crate) enum Header {
     /// Nothing was written to the store yet.
     Fresh,
-    /// The snapshot is invalid.
+    /// The snapshot is lost.
     Lost,
-    /// The store has a list.
+    /// The store is in use and has a list.
     Used,
 }
 
-/// Reads the header of a store whose chunks have this size by its table.
+/// Reads a header sector, for a store with this chunk size in the table.
 pub(crate) fn read_header(sector: &[u8], chunk: u64) -> Result<Header, StoreFault>
     requires { length sector.now ≡ SECTOR }
     ensures { (used : Stored) → told_header used result ≡ by_header used chunk (Ok sector.now) }

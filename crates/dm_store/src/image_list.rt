@@ -1,4 +1,4 @@
-//! The images of a stack's disks, as a list of paths has them.
+//! The images of a stack's disks, as a list of paths gives them.
 
 ghost use Rattle.dm_store.specs.Prelude.{IfErr, IfOk, Ok, Err, find, map, option_map, IsMemoryFault, is_same, image_in, images_of};
 ghost use Rattle.dm_table.specs.declared.load.load_fault.LoadKind.TheVariants.{Memory};
@@ -11,15 +11,15 @@ use dm_stack::{Stack, check_paths};
 use dm_table::{DiskPath, LoadFault, Part, are_same};
 use std::alloc::{AllocError, Global};
 
-/// The images of the disks that paths name; other disks lie in none.
+/// Looks up the image of each disk in a list of paths; a disk without a path is in no image.
 ///
-/// Cost: near-linear in the paths, and a comparison for each path and each disk, with memory for a copy of each
-/// path.
+/// Cost: near-linear in the paths, and one comparison for each pair of a path and a disk, with memory for a copy
+/// of each path.
 ///
 /// # Errors
 ///
-/// `Twice` at the first path of a disk that an earlier one names, and else `Unknown` at the first of a disk that
-/// the stack doesn't have. `Memory`, with number 0, if an allocation was refused.
+/// `Twice` at the first path for a disk that an earlier path is for; else `Unknown` at the first path for a disk
+/// that the stack doesn't have. `Memory`, with the number 0, if memory ran out.
 pub fn listed_images(
     alloc: Global,
     stack: &Stack,
@@ -36,7 +36,7 @@ pub fn listed_images(
     }
 }
 
-/// Where each disk lies, in the order of the stack.
+/// The image of each disk, in the order of the stack.
 fn places_in(
     alloc: Global,
     stack: &Stack,
@@ -51,7 +51,7 @@ fn places_in(
     Ok(places)
 }
 
-/// Where a disk of this name lies, if a path is of it.
+/// The image of the disk with this name, if a path in the list is for it.
 fn image_in(alloc: Global, paths: &[DiskPath], name: &str) -> Result<Option<ImagePlace>, AllocError>
     ensures { IfOk result (λ image. image ≡ image_in paths.now name.now) }
 {
@@ -64,7 +64,7 @@ fn image_in(alloc: Global, paths: &[DiskPath], name: &str) -> Result<Option<Imag
     }
 }
 
-/// The first path of a disk of this name.
+/// The first path for the disk with this name.
 fn path_of<'a>(paths: &'a [DiskPath], name: &str) -> Option<&'a DiskPath>
     ensures { option_map (λ path. path.now) result ≡ find (λ path. is_same path.disk name.now) paths.entry.now }
 {

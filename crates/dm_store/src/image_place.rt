@@ -1,12 +1,12 @@
-//! Where a disk lies.
+//! Where in an image file a disk is.
 
 ghost use Rattle.dm_store.specs.Prelude.{string_bytes};
 ghost use Rattle.std.specs.Prelude.{◌≡◌, ◌<◌, ◌^◌};
 
 use std::marker::Model;
 
-/// An image that has a disk, from a sector of it on, and the line of its list that names it. A clause sees the
-/// line, the bytes of the path, and the sector.
+/// An image file with a disk in it: its path, the sector at which the disk starts, and its line in the list of
+/// paths. Contracts see the line, the bytes of the path, and the sector.
 #[derive(Debug, Drop)]
 pub struct ImagePlace {
     path: String,
@@ -27,7 +27,8 @@ impl Model for ImagePlace {
 }
 
 impl ImagePlace {
-    /// The image at a path, from a sector of it on, by this line. No memory is taken.
+    /// A disk in the image at this path, from sector `start` on, given in this line of the list. No memory is
+    /// allocated.
     pub(crate) fn new(path: String, start: u64, line: u64) -> ImagePlace
         requires { start < 2 ^ 51 }
         ensures { result ≡ record { line = line; path = string_bytes path; start = start } }
@@ -35,7 +36,7 @@ impl ImagePlace {
         ImagePlace { path, start, line }
     }
 
-    /// The line that names it.
+    /// The line of the list of paths that gives the image.
     pub(crate) fn line(&self) -> u64
         ensures { result ≡ self.now.line }
     {
@@ -49,7 +50,7 @@ impl ImagePlace {
         self.path.as_str()
     }
 
-    /// The sector of the image where the disk begins.
+    /// The sector of the image at which the disk starts.
     pub(crate) fn start(&self) -> u64
         ensures start { result ≡ self.now.start }
         ensures near { result < 2 ^ 51 }

@@ -1,31 +1,31 @@
-//! Images of disks: files, or parts of files, that are read by sectors of 512 bytes.
+//! Images of disks: files, or parts of files, that are read in sectors of 512 bytes.
 //!
-//! What images hold can't be said beforehand. So a clause says what was seen: which contents agree with all
-//! that was read so far, and these are exactly the ones that agree with each read. If an image gives other bytes
-//! for a sector than it gave before, none do.
+//! What images hold isn't known beforehand. So contracts say which contents agree with all reads so far: exactly
+//! those that agree with each of them. If an image returns other bytes for a sector than before, no contents
+//! agree.
 
 ghost use Rattle.dm_store.specs.Base.{length};
 ghost use Rattle.dm_store.specs.Images.{AreRead, Contents};
 ghost use Rattle.std.specs.Prelude.{◌≡◌, ◌<◌, ◌≤◌, ◌%◌, ◌^◌};
 
-/// The bytes of a sector.
+/// The size of a sector in bytes.
 pub const SECTOR: usize = 512;
 
-/// The most bytes of one read.
+/// The most bytes in one read.
 pub const MOST_BYTES: usize = 65_536;
 
-/// An image that can't be opened or read, or ends before.
+/// The image can't be opened or read, or ends before the sectors asked for.
 #[derive(Clone, Copy, Debug, PartialEq, Eq, Drop)]
 pub struct ReadFault;
 
-/// Images, each named by its line in a list, and by its path.
+/// Gives access to images, each named by its line in a list and its path.
 pub trait Images {
-    /// Contents of all images that agree with all that was read so far. All contents do before the first read, and
-    /// whoever makes images promises that, unless it is known what they hold: then only this agrees.
+    /// Says which contents of all images agree with the reads so far. Before the first read all contents do, as
+    /// the maker of images promises; or, if the contents are known, only these do.
     ghost IsSeen: { Self → Contents → Type 0 };
 
-    /// Reads whole sectors of the image at this path, from a sector of it on. The line of the path in its list
-    /// tells images apart, so that each can be opened once. After a fault the slice may hold anything.
+    /// Reads whole sectors of the image at this path, from `sector` on. The line of the path in its list tells
+    /// images apart, so that each can be opened once. After a fault, `into` may hold anything.
     fn read(&mut self, line: u64, path: &str, sector: u64, into: &mut [u8]) -> Result<(), ReadFault>
         requires whole { length into.old % SECTOR ≡ 0 }
         requires some { SECTOR ≤ length into.old }

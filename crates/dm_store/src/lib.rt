@@ -1,7 +1,7 @@
-//! What the exception stores of snapshots hold, read from images of disks.
+//! Reads what the exception stores of snapshots hold, from images of disks.
 //!
-//! `specs/Stored.antt` defines what a store holds by its sectors, and `specs/Start.antt` the state that
-//! the stores of a stack hold. `read_stores` gives it to a mapper.
+//! `specs/Stored.antt` defines what a store holds, by its sectors, and `specs/Start.antt` the state that a
+//! stack's stores hold. `read_stores` brings a mapper into that state.
 #![tactic(auto)]
 
 mod asked;

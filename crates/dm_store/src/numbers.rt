@@ -1,9 +1,9 @@
-//! Numbers in bytes, the least significant byte first.
+//! Little-endian numbers in bytes.
 
 ghost use Rattle.dm_store.specs.Prelude.{length, eight_at, four_at};
 ghost use Rattle.std.specs.Prelude.{◌≡◌, ◌+◌, ◌≤◌};
 
-/// The number of four bytes.
+/// The 32-bit little-endian number in the four bytes from `at` on.
 #[inline(always)]
 pub(crate) fn four(bytes: &[u8], at: usize) -> u32
     requires { at + 4 ≤ length bytes.now }
@@ -12,7 +12,7 @@ pub(crate) fn four(bytes: &[u8], at: usize) -> u32
     u32::from_le_bytes([bytes[at], bytes[at + 1], bytes[at + 2], bytes[at + 3]])
 }
 
-/// The number of eight bytes.
+/// The 64-bit little-endian number in the eight bytes from `at` on.
 #[inline(always)]
 pub(crate) fn eight(bytes: &[u8], at: usize) -> u64
     requires { at + 8 ≤ length bytes.now }

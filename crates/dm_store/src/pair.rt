@@ -1,4 +1,4 @@
-//! Pairs of a list: an old chunk, and the new chunk that keeps it.
+//! Pairs of a list: a chunk of the snapshot, and the chunk of the store that holds it.
 
 ghost use Rattle.dm_store.specs.Prelude.{length, pair_in, are_zeros};
 ghost use Rattle.dm_store.specs.declared.images.TheConstants.{SECTOR};
@@ -6,7 +6,7 @@ ghost use Rattle.std.specs.Prelude.{◌≡◌, ◌<◌};
 
 use crate::numbers::eight;
 
-/// A chunk of a snapshot, and the chunk of its store that has it.
+/// A chunk of a snapshot (`old`), and the chunk of its store that holds it (`new`).
 #[derive(Clone, Copy, Debug, Drop)]
 pub(crate) struct Pair {
     pub(crate) old: u64,
@@ -14,7 +14,7 @@ pub(crate) struct Pair {
 }
 
 impl Pair {
-    /// Whether both are 0.
+    /// Whether both chunks are 0.
     pub(crate) fn are_zeros(self) -> bool
         ensures { result ≡ are_zeros self }
     {
@@ -22,10 +22,10 @@ impl Pair {
     }
 }
 
-/// How many pairs a sector has.
+/// How many pairs are in one sector of the list.
 pub(crate) const ROW: u64 = 32;
 
-/// The pair with this index of a sector.
+/// The pair with this index in a sector of the list.
 #[inline(always)]
 pub(crate) fn pair_at(sector: &[u8], index: usize) -> Pair
     requires len { length sector.now ≡ SECTOR }

@@ -1,6 +1,6 @@
-//! A log of reads that only proofs see: it takes no room and no time.
+//! A log of reads that exists for proofs only, and uses no memory or time.
 //!
-//! What a real image holds is known by it alone. Note each read as it is returned.
+//! Contents of real images can't be known otherwise. An `impl Images` must note each read when it returns.
 
 ghost use Rattle.dm_store.specs.Prelude.{[], length, AreRead, Contents, AgreesWith};
 ghost use Rattle.std.specs.Prelude.{◌≡◌, ◌↔◌};
@@ -10,7 +10,7 @@ use crate::images::ReadFault;
 use dm_table::GhostList;
 use std::marker::Model;
 
-/// All reads of images so far. A clause sees which they were, and what they gave.
+/// All reads of images so far. Contracts see what was asked and what was returned.
 #[derive(Drop)]
 pub struct ReadLog {
     asked: GhostList<Asked>,
@@ -32,7 +32,7 @@ impl Model for ReadLog {
 }
 
 impl ReadLog {
-    /// Nothing read so far.
+    /// A log without reads, which all contents agree with.
     pub fn new() -> ReadLog
         ensures asked { result.asked ≡ [] }
         ensures paths { result.paths ≡ [] }
@@ -46,7 +46,7 @@ impl ReadLog {
         }
     }
 
-    /// Notes a read of the image of this line, at this path.
+    /// Notes the result of a read of the image with this line and path.
     pub fn note(
         &mut self,
         line: u64,

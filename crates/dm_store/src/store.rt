@@ -1,18 +1,18 @@
-//! A store, as its snapshot has it.
+//! An exception store with its layout, for the reader of stores.
 
 use dm_stack::{ChunkSize, Lower};
 
 /// The store of a snapshot, of a kind that keeps a list.
 #[derive(Clone, Copy, Debug, Drop)]
 pub struct Store {
-    /// What it is.
+    /// The device or disk that is the store.
     pub lower: Lower,
-    /// The size of its chunks.
+    /// The chunk size of the snapshot and its store.
     pub chunk: ChunkSize,
-    /// Its length in sectors.
+    /// The length of the store in sectors.
     pub len: u64,
-    /// For how many taken chunks it has places.
+    /// How many taken chunks the store has room for.
     pub places: u64,
-    /// The last chunk of the snapshot.
+    /// The last chunk of the snapshot's device.
     pub last: u64,
 }

@@ -1,4 +1,4 @@
--- What becomes of a chunk that is to be taken, with the facts that each case rests on: nothing is done, or it is taken, or its snapshot is lost; the state still fits.
+-- The three outcomes of taking a chunk, with the facts of each: nothing is done, the chunk is taken, or the snapshot is lost. The state still fits the stack.
 use Rattle.dm_map.proofs.Prelude.{inl, inr, ℕ, zero, suc, Bool, true, false, cond, not, [], length-append, Some, length, refl, sym, ap, ◌∙◌, arith, is_some, and_parts, cases_eq, cases_lt, le-leb, leb-true, not-false, not-true, or_parts, length-set, ResolvedSnapshot, Lower, Device, Disk, Below, Lies, IsZero, IsError, Description, IsFitting, by_below, read_below, read_unit, number_in, has_place, any_error, can_take, count_of, first_of, is_error, is_settled, read, reads_all, take_chunk, row, lost, put, with_chunk, State, Taken, taken_at, Step, keep, snapshot_at, BlockUnit, ReadOf, Zeros, Fails}
 use Rattle.dm_stack.specs.declared.checks.graph.TheConstants.{MOST_DEPTH}
 use Rattle.dm_map.proofs.own.Plays.{IsReadable, Reads, AreZeros}
@@ -6,7 +6,7 @@ use Rattle.dm_map.proofs.walk.ChunkTaking.{none_of, taken_other, taken_same}
 use Rattle.dm_map.proofs.own.Takes.{IsTake, chunk_copies, new_number, taken_state}
 use Rattle.std.specs.Prelude.{◌≡◌, ◌⊎◌, ◌+◌, ◌<◌, ◌≤◌, ◌∷◌, ◌++◌}
 
--- A read gives one of three units
+-- The unit of a read is a disk's read, zeros, or an error
 
 pub data IsRead (unit : BlockUnit) : Type 0 where
   Sector : (disk sector : ℕ) → unit ≡ ReadOf disk sector → IsRead unit
@@ -38,7 +38,7 @@ no_errors f s (suc n) u e low high =
       | inr differ ↦ no_errors f (suc s) n u parts.1 (omega (arith, low, differ)) (omega (arith, high))
     ]
 
--- The three outcomes
+-- The three outcomes of taking a chunk
 
 pub data FullOutcome (stack : Description) (state : State) (device chunk : ℕ) (snapshot : ResolvedSnapshot) (step : Step) : Type 0 where
   Done : step ≡ keep [] state → FullOutcome stack state device chunk snapshot step
@@ -67,7 +67,7 @@ pub full_outcome : (stack : Description) (state : State) (device chunk : ℕ) (s
 full_outcome stack state device chunk snapshot over there =
     full_outcome_by stack state device chunk snapshot (is_settled (taken_at state device) chunk) (can_take stack state snapshot device (first_of snapshot chunk) (count_of stack snapshot device chunk)) over there refl refl
 
--- The state still fits
+-- The state still fits the stack after a chunk is taken
 
 pub fits_put : (stack : Description) (state : State) (device : ℕ) (taken : Taken) → IsFitting stack state → device < length state
     → ((number : ℕ) (snapshot : ResolvedSnapshot) → snapshot_at stack device ≡ Some snapshot → number < length taken.chunks → has_place stack snapshot number ≡ true) → IsFitting stack (put state device taken)

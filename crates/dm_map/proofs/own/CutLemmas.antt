@@ -1,4 +1,4 @@
--- What a power cut may leave: no read from a root comes to a sector without data, and chunks that are taken ahead change nothing that roots have, but to errors.
+-- Power cuts: no read from a root reaches a sector without data, and chunks taken ahead change nothing that roots read, except into errors.
 use Rattle.dm_map.proofs.Prelude.{ℕ, true, false, List, Option, sym, ap, subst, ◌∙◌, arith, AllByRecursion, div-add-mod', same_from_place, true≢false, Lower, Device, ResolvedSnapshot, IsSound, IsTidy, Description, is_metadata, place, place_data, Stays, Values, played, value_read, HaveSameData, IsOfSnapshot, IsSpareSector, take_chunks, IsListSector, Due, AreOwn, Rows, node, ReadOf, IsFitting, store_sector, State, taken_at, read}
 use Rattle.dm_map.proofs.own.HomeLemmas.{fresh_apart}
 use Rattle.dm_map.proofs.own.Losses.{stays_on}
@@ -9,16 +9,16 @@ use Rattle.dm_map.proofs.state.ResolvedLines.{snapshot_sound}
 use Rattle.dm_map.proofs.state.TableLemmas.{number_within}
 use Rattle.std.specs.Prelude.{◌≡◌, ◌+◌, ◌*◌, ◌/◌, ◌%◌, ◌<◌}
 
--- Sectors without data
+-- Disk sectors that hold no data
 
--- a sector of a taken chunk lies in the place of its number
+-- the store sector of a taken chunk's sector lies in the store chunk that belongs to the chunk's number
 pub in_place : (snapshot : ResolvedSnapshot) (number sector : ℕ) → 0 < snapshot.chunk → store_sector snapshot number sector / snapshot.chunk ≡ place snapshot.kind snapshot.chunk number
 in_place snapshot number sector some =
     let at = store_sector snapshot number sector in
     let whole : at / snapshot.chunk * snapshot.chunk + at % snapshot.chunk ≡ at = div-add-mod' at snapshot.chunk in
     (same_from_place (at / snapshot.chunk) (at % snapshot.chunk) (place snapshot.kind snapshot.chunk number) (sector % snapshot.chunk) snapshot.chunk (omega (arith, some)) (omega (arith, some)) whole).0
 
--- and a list in no place
+-- a metadata chunk of the store is never the place of a taken chunk
 pub list_no_place : (snapshot : ResolvedSnapshot) (number at : ℕ) → 0 < snapshot.chunk → is_metadata snapshot.kind snapshot.chunk at ≡ true → at ≡ place snapshot.kind snapshot.chunk number → ⊥
 list_no_place snapshot number at some list same =
     true≢false (sym list ∙ ap (is_metadata snapshot.kind snapshot.chunk) same ∙ place_data snapshot.kind snapshot.chunk number some)
@@ -53,7 +53,7 @@ spare_own {V = V} zeros stack state values others rows sound tidy own same = rec
       subst (λ (v : Option V). Stays (rows top sector) v) (sym kept) (own.tops top sector is_top);
 }
 
--- Chunks that are taken ahead
+-- Chunks that are taken ahead of writes
 
 pub ahead_own : {V : Type 0} (zeros : V) (written : ℕ → V) (stack : Description) (state : State) (sector : ℕ) (chunks : List Due) (values : Values V) (rows : Rows V) → IsSound stack → IsTidy stack → AllByRecursion (IsOfSnapshot stack) chunks → AreOwn zeros stack state values rows
     → AreOwn zeros stack (take_chunks stack chunks state).state (played zeros written sector (take_chunks stack chunks state).units values) rows

@@ -1,15 +1,15 @@
--- Chunks that are due for a write: it leaves the state that they leave, and each is one of a snapshot of the stack.
+-- The chunks due for a write: the write leaves the state that taking them leaves, and each is a chunk of a snapshot of the stack.
 use Rattle.dm_map.proofs.Prelude.{ℕ, zero, suc, Bool, true, false, cond, List, [], Option, Some, None, refl, sym, ap, ◌∙◌, arith, AllByRecursion, div-mul-le_self, Lower, Device, Disk, ResolvedLine, ResolvedOver, ResolvedTarget, Below, Lies, below_plain, found_at, Description, device_len, is_ro_at, lower_len, IsSound, Due, due_at_line, due_at_target, due_in, due_over, State, taken_at, snapshot_at, write_line, write_step, write_target, by_below, IsOver, serve, is_refused, take_chunk, unit_in_store, Step, keep, and_then, Drops, Fails, all_append}
 use Rattle.dm_stack.specs.declared.lines.resolved_line.ResolvedTarget.TheVariants as founds
 use Rattle.dm_map.proofs.state.ResolvedLines.{line_origin, line_snapshot, line_sound, origin_sound}
 use Rattle.dm_map.proofs.walk.Overs.{overs}
 use Rattle.std.specs.Prelude.{◌≡◌, ◌-◌, ◌*◌, ◌/◌, ◌<◌, ◌∷◌, ◌++◌}
 
--- the state after one
+-- the state after one due chunk is taken
 abbrev pub due_taken : Description → State → Due → State
 due_taken stack state one = (take_chunk stack one.snapshot one.device one.chunk state).state
 
--- and after some, one after the other
+-- the state after these due chunks are taken in order
 abbrev pub all_taken : Description → State → List Due → State
 all_taken stack state [] = state
 all_taken stack state (one ∷ later) = all_taken stack (due_taken stack state one) later
@@ -23,7 +23,7 @@ unfolding serve
 serve_taken stack [] sector state = refl
 serve_taken stack (one ∷ over) sector state = serve_taken stack over sector (take_chunk stack one.snapshot one.device (sector / one.snapshot.chunk) state).state
 
--- A write leaves the state that the chunks leave
+-- A write leaves the state that taking its due chunks leaves
 
 Leaves : Description → (Lower → State → ℕ → Step) → (Lower → State → ℕ → List Due) → Type 0
 Leaves stack next due = (to : Lower) (state : State) (sector : ℕ) → (next to state sector).state ≡ all_taken stack state (due to state sector)
@@ -65,7 +65,7 @@ write_leaves stack (suc levels) (Device device) state sector =
     (due_at_line stack state device (found_at stack device sector) sector (λ to after at. due_in stack levels to after at))
     (line_leaves stack state device (found_at stack device sector) sector (λ to after at. write_step stack levels to after at) (λ to after at. due_in stack levels to after at) (λ to after at. write_leaves stack levels to after at))
 
--- Each is a chunk of a snapshot of the stack
+-- Each due chunk belongs to a snapshot of the stack
 
 pub record IsDue (stack : Description) (one : Due) : Type 0 where
   pub is : snapshot_at stack one.device ≡ Some one.snapshot

@@ -1,4 +1,4 @@
--- Where a read is an error: where its way meets an `error` line or a snapshot that is lost.
+-- A read fails exactly if its path meets an `error` line or a lost snapshot.
 use Rattle.dm_map.proofs.Prelude.{ℕ, Bool, true, false, cond, List, [], Option, Some, None, length, refl, sym, ap, ◌∙◌, arith, slice_get, Lower, Device, Disk, ResolvedColumn, ResolvedLine, ResolvedSnapshot, ResolvedTarget, Below, Lies, IsZero, IsError, below_column, below_line, below_target, column_of, found_at, in_column, IsTargetSound, Description, device_len, lower_len, lower_depth, IsSound, device_there, sector_found, there, AtError, AtLost, EndsHere, MeetsError, IsWay, Leads, Node, node, IsFitting, number_in, read_numbered, read_over, State, taken_at, snapshot_at, by_below, read_below, read, ReadOf, Zeros, Fails}
 use Rattle.dm_stack.specs.declared.lines.resolved_line.ResolvedTarget.TheVariants as founds
 use Rattle.dm_map.proofs.own.UniqueSteps.{fits, goes_on_inside, read_inside, serve_inside, step_inside}
@@ -8,7 +8,7 @@ use Rattle.dm_map.proofs.walk.OneLevel.{by_depth, next_depth, read_disk, read_do
 use Rattle.dm_map.proofs.walk.ReadSteps.{ReadStep, ByLine, ByStore, ByRead, ByServe, read_step}
 use Rattle.std.specs.Prelude.{◌≡◌, ◌+◌, ◌-◌, ◌/◌, ◌<◌, ◌∷◌}
 
--- A read goes on inside of what it comes to
+-- The sector at which a read continues lies within its device or disk
 
 inside_by : (stack : Description) (state : State) (device sector : ℕ) (to : Lower) (at : ℕ) → IsSound stack → IsFitting stack state → sector < device_len stack device → ReadStep stack state device sector to at → at < lower_len stack to
 inside_by stack state device sector to at sound fitting inside (ByLine line is step) = step_inside stack device sector line to at sound is step
@@ -20,7 +20,7 @@ pub next_inside : (stack : Description) (state : State) (device sector : ℕ) (t
 next_inside stack state device sector to at sound fitting is =
     inside_by stack state device sector to at sound fitting (goes_on_inside stack state device sector to at sound is) (read_step stack state device sector to at sound is)
 
--- Nothing lies below an `error` line and a snapshot that is lost, and no other
+-- Only below an `error` line and a lost snapshot is there an error
 
 lies_no_error : (to : Lower) (at : ℕ) → Lies to at ≡ IsError → ⊥
 lies_no_error to at e = cc
@@ -61,7 +61,7 @@ ends_below : (stack : Description) (state : State) (device sector : ℕ) → IsS
 ends_below stack state device sector sound (AtError line is target) = rw (is, target) refl
 ends_below stack state device sector sound (AtLost snapshot over off) = lost_below stack state device sector (found_at stack device sector) snapshot sound refl over off
 
--- So a read that is an error meets one of them
+-- A read that fails meets an `error` line or a lost snapshot
 
 disk_no_error : (disk sector : ℕ) → ReadOf disk sector ≡ Fails → ⊥
 disk_no_error disk sector e = cc
@@ -103,7 +103,7 @@ pub meets_error : (stack : Description) (state : State) (lower : Lower) (sector 
 unfolding Meets
 meets_error stack state lower sector sound fitting inside e = by_depth stack (Meets stack state) (meets_step stack state sound fitting) lower sector inside e
 
--- And one that meets one of them is an error
+-- A read that meets an `error` line or a lost snapshot fails
 
 leads_read : (stack : Description) (state : State) (a b : Node) → IsSound stack → Leads stack state a b → read stack state a.lower a.sector ≡ read stack state b.lower b.sector
 leads_read stack state a b sound leads =

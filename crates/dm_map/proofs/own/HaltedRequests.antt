@@ -1,10 +1,10 @@
--- Where no claims meet, each top device has what it would have alone, or errors, after the first units of any request of a top device.
+-- If no claims clash, each sector of a top device reads as its row says, or as an error, after any number of the first units of a request to a top device.
 use Rattle.dm_map.proofs.Prelude.{inl, inr, ℕ, zero, suc, Bool, true, false, cond, List, [], length, take, nat_lt, replicate, refl, ◌∙◌, arith, take-append-add, take-nil, cases_lt, take-append-le, Op, Device, IsTidy, IsTop, Description, device_len, IsSound, Values, played, sector_past, sector_step, AreOwn, Rows, rows_played, State, Step, keep, steps, halted_state, halted_units, BlockUnit, Fails}
 use Rattle.dm_stack.specs.declared.checks.graph.TheConstants.{MOST_DEPTH}
 use Rattle.dm_map.proofs.own.OwnRequests.{both_own, none_own, played_first, rows_first, step_own}
 use Rattle.std.specs.Prelude.{◌≡◌, ◌+◌, ◌-◌, ◌≤◌, ◌++◌}
 
--- some number of sectors is whole, and the state is that after them: it is counted from any sector on
+-- a request halted after these units: some number of its sectors is complete, the state is the one after those, and each top device reads as its row says, or as an error
 record IsHalted {V : Type 0} (zeros : V) (written : ℕ → V) (stack : Description) (top : ℕ) (step : State → ℕ → Step) (state : State) (sector at len : ℕ) (units : List BlockUnit) (values : Values V) (rows : Rows V) : Type 0 where
   pub sectors : ℕ
   pub past : sector_past units at ≡ at + sectors
@@ -21,7 +21,7 @@ none_halted zeros written stack top step state sector at len values rows own = r
   own = none_own zeros written stack state top sector values rows own;
 }
 
--- the units of the first sector may be more than are played, or there are those of later ones to come
+-- the steps of a request halted after count units: within the first sector's units, or within those of a later sector
 steps_halted : {V : Type 0} (zeros : V) (written : ℕ → V) (stack : Description) (op : Op) (top count len : ℕ) (state : State) (sector at : ℕ) (values : Values V) (rows : Rows V) → IsSound stack → IsTidy stack → IsTop stack top → AreOwn zeros stack state values rows
     → IsHalted zeros written stack top (sector_step stack op MOST_DEPTH (Device top)) state sector at len (take count (steps (sector_step stack op MOST_DEPTH (Device top)) state sector len).units) values rows
 steps_halted {V} zeros written stack op top count zero state sector at values rows sound tidy is_top own =
@@ -51,7 +51,7 @@ steps_halted {V} zeros written stack op top count (suc len) state sector at valu
           })
     ]
 
--- one that passes the device's end fails sector by sector, and changes nothing
+-- a halted request that passes the device's end: only errors, which change nothing
 fails_halted : {V : Type 0} (zeros : V) (written : ℕ → V) (stack : Description) (state : State) (top start count len : ℕ) (values : Values V) (rows : Rows V) → AreOwn zeros stack state values rows
     → AreOwn zeros stack state (played zeros written start (take count (replicate len Fails)) values) (rows_played written top start (take count (replicate len Fails)) rows)
 fails_halted zeros written stack state top start zero len values rows own = none_own zeros written stack state top start values rows own
@@ -75,7 +75,7 @@ halted_own {V} zeros written stack op state top start len count values rows soun
         let units = take count (steps step state start len).units in
         rw (halted.past, (let e : 0 + halted.sectors ≡ halted.sectors = omega arith in e)) halted.own
 
--- no more sectors are whole than there are
+-- A halted request completes no more sectors than it has
 
 fails_few : (count len at : ℕ) → sector_past (take count (replicate len Fails)) at ≤ at + len
 unfolding sector_past

@@ -1,4 +1,4 @@
--- What a chunk that is due leaves as it is, the first sectors of a request do; so a state that fits its stack still fits after them.
+-- A property that every due chunk preserves, the first sectors of a request preserve; so a state that fits its stack still does after them.
 use Rattle.dm_map.proofs.Prelude.{ℕ, zero, suc, Bool, true, false, List, [], nat_lt, AllByRecursion, Op, Device, Description, device_len, IsSound, state_past, Due, due, IsFitting, State, sector_step, take_chunk}
 use Rattle.dm_table.specs.declared.requests.request.Op.TheVariants as ops
 use Rattle.dm_stack.specs.declared.checks.graph.TheConstants.{MOST_DEPTH}
@@ -7,7 +7,7 @@ use Rattle.dm_map.proofs.own.DueChunks.{IsDue, all_due, all_taken, due_taken, wr
 use Rattle.dm_map.proofs.own.LostSnapshots.{due_there, past_by, state_at}
 use Rattle.std.specs.Prelude.{◌+◌, ◌∷◌}
 
--- it stays so where a chunk that is due is taken, or can't be
+-- the property of states is preserved by each due chunk, whether it is taken or the snapshot is lost
 abbrev pub IsKept : Description → (State → Type 0) → Type 0
 IsKept stack IsSo = (state : State) (one : Due) → IsDue stack one → IsSo state → IsSo (due_taken stack state one)
 
@@ -32,7 +32,7 @@ past_keeps stack IsSo op state asked start len sectors sound kept is = by_end (n
     by_end true = is
     by_end false = sectors_keep stack IsSo op state asked start sectors sound kept is
 
--- A state that fits
+-- Due chunks preserve that a state fits its stack
 
 pub due_fits : (stack : Description) (state : State) (one : Due) → IsSound stack → IsDue stack one → IsFitting stack state → IsFitting stack (due_taken stack state one)
 due_fits stack state one sound is fits =

@@ -1,4 +1,4 @@
--- Lists of stores: no unit of a request of a top device writes there.
+-- No unit of a request to a top device writes to the list of a store.
 use Rattle.dm_map.proofs.Prelude.{ℕ, zero, suc, Bool, true, false, cond, List, [], Some, take, drop, nat_lt, replicate, refl, sym, ap, ◌∙◌, AllByRecursion, take-append-drop, true≢false, Op, Own, Lower, Device, ResolvedSnapshot, IsSound, is_store_to, IsTidy, IsTop, Description, device_len, lower_len, Lies, found_at, has_state, is_metadata, all_append, all_front, IsVia, one_via, Values, answers, played, played_unit, sector_after, IsOfSnapshot, take_chunks, halted_units, IsListSector, Due, write, IsWay, Leads, Node, node, BlockUnit, WriteOf, Fails, CopyOf, FillOf, IsFitting, read_over, store_sector, State, taken_at, snapshot_at, Home, home, request_step, sector_step, read_below, copy_to, count_of, first_of, home_in_store, read, take_chunk, Step, keep, steps}
 use Rattle.dm_table.specs.declared.requests.request.Op.TheVariants as ops
 use Rattle.dm_stack.specs.declared.checks.graph.TheConstants.{MOST_DEPTH}
@@ -19,12 +19,12 @@ use Rattle.dm_map.proofs.walk.ReadSteps.{read_step}
 use Rattle.dm_map.proofs.walk.Stores.{below_store, store_line}
 use Rattle.std.specs.Prelude.{◌≡◌, ◌+◌, ◌/◌, ◌<◌, ◌∷◌, ◌++◌}
 
--- A place is no part of a list
+-- The place of a taken chunk is never part of a list
 
 list_off : (snapshot : ResolvedSnapshot) (n t m : ℕ) → 0 < snapshot.chunk → is_metadata snapshot.kind snapshot.chunk (m / snapshot.chunk) ≡ true → m ≡ store_sector snapshot n t → ⊥
 list_off snapshot n t m some list same = list_no_place snapshot n (m / snapshot.chunk) some list (ap (λ (x : ℕ). x / snapshot.chunk) same ∙ in_place snapshot n t some)
 
--- A store leads to stores alone
+-- Everything below a store is a store, too
 
 record IsOfStore (stack : Description) (n : Node) : Type 0 where
   levels : ℕ
@@ -61,7 +61,7 @@ plain_store stack (suc levels) device snapshot store over =
 same_store : (stack : Description) (levels : ℕ) (lower other : Lower) → lower ≡ other → is_store_to stack levels lower ≡ true → is_store_to stack levels other ≡ true
 same_store stack levels lower other same store = ap (is_store_to stack levels) (sym same) ∙ store
 
--- Stores that are one are those of one snapshot
+-- Two snapshots with the same store are one snapshot
 
 one_store : (stack : Description) (d e at : ℕ) (one other : ResolvedSnapshot) → IsSound stack → IsTidy stack → snapshot_at stack d ≡ Some one → snapshot_at stack e ≡ Some other → one.store ≡ other.store → at < lower_len stack one.store → one ≡ other
 one_store stack d e at one other sound tidy over over_other same below =
@@ -74,7 +74,7 @@ one_store stack d e at one other sound tidy over over_other same below =
     let second = b.target in
     cc
 
--- No place lies where a list does
+-- No taken chunk's home is a sector of a list
 
 pub place_off : (stack : Description) (state : State) (device : ℕ) (snapshot : ResolvedSnapshot) (n t disk sector : ℕ) → IsSound stack → IsFitting stack state → IsTidy stack → snapshot_at stack device ≡ Some snapshot → store_sector snapshot n t < lower_len stack snapshot.store
     → IsListSector stack disk sector → home_in_store stack snapshot n t ≡ home_at disk sector → ⊥
@@ -96,7 +96,7 @@ place_off stack state device snapshot n t disk sector sound fitting tidy over in
           plain_store stack of_store.levels device snapshot (same_store stack of_store.levels c.lower (Device device) (leads.on ∙ ap Device kept.same) of_store.store) over
     ]
 
--- Units that write no list
+-- Units that write to no list
 
 pub record IsOff {V : Type 0} (zeros : V) (stack : Description) (unit : BlockUnit) : Type 0 where
   pub off : (written : V) (values : Values V) (disk sector : ℕ) → IsListSector stack disk sector → played_unit zeros written unit values disk sector ≡ values disk sector
@@ -112,7 +112,7 @@ still_off zeros stack unit (Sector disk at is) = rw is (record { off = λ writte
 still_off zeros stack unit (Nothing is) = rw is (record { off = λ written values k x list. refl })
 still_off zeros stack unit (Fault is) = rw is (record { off = λ written values k x list. refl })
 
--- chunks that are taken, one after the other
+-- taking chunks, one after the other, writes to no list
 
 outcome_off : {V : Type 0} (zeros : V) (stack : Description) (state : State) (device chunk : ℕ) (snapshot : ResolvedSnapshot) (step : Step) → IsSound stack → IsFitting stack state → IsTidy stack → FullOutcome stack state device chunk snapshot step → AllByRecursion (IsOff zeros stack) step.units
 outcome_off zeros stack state device chunk snapshot step sound fitting tidy (Done is) = rw is tt
@@ -135,7 +135,7 @@ takes_off zeros stack state (e ∷ es) sound fitting tidy each =
     let fits = full_outcome_fits stack state e.device e.chunk e.snapshot step fitting there outcome in
     all_append (IsOff zeros stack) step.units (take_chunks stack es step.state).units (outcome_off zeros stack state e.device e.chunk e.snapshot step sound fitting tidy outcome) (takes_off zeros stack step.state es sound fits tidy each.1)
 
--- the unit that answers a write
+-- the unit that answers a write writes to no list
 
 last_off : {V : Type 0} (zeros : V) (stack : Description) (unit : BlockUnit) → ((disk at : ℕ) → unit ≡ WriteOf disk at → IsListSector stack disk at → ⊥) → ((disk at to to_at : ℕ) → unit ≡ CopyOf disk at to to_at → ⊥) → ((disk at : ℕ) → unit ≡ FillOf disk at → ⊥) → IsOff zeros stack unit
 last_off zeros stack (WriteOf disk at) no_list no_copy no_fill = record {
@@ -148,7 +148,7 @@ last_off zeros stack (CopyOf disk at to to_at) no_list no_copy no_fill = absurd 
 last_off zeros stack (FillOf disk at) no_list no_copy no_fill = absurd (no_fill disk at refl)
 last_off zeros stack unit no_list no_copy no_fill = record { off = λ written values k x list. refl }
 
--- The units of a sector
+-- The units of one sector write to no list
 
 no_copy : (disk at to to_at : ℕ) (unit : BlockUnit) → answers unit ≡ true → unit ≡ CopyOf disk at to to_at → ⊥
 no_copy disk at to to_at unit answered e = true≢false (sym answered ∙ ap answers e)
@@ -169,7 +169,7 @@ write_off {V = V} zeros stack state top sector sound tidy is_top fitting =
       tt,
     ))
 
--- The units of a request
+-- The units of a request write to no list
 
 steps_off : {V : Type 0} (zeros : V) (stack : Description) (op : Op) (top len : ℕ) (state : State) (sector : ℕ) → IsSound stack → IsTidy stack → IsTop stack top → IsFitting stack state → AllByRecursion (IsOff zeros stack) (steps (sector_step stack op MOST_DEPTH (Device top)) state sector len).units
 steps_off zeros stack op top zero state sector sound tidy is_top fitting = tt

@@ -1,4 +1,4 @@
--- A snapshot that is lost: what any sector has stays, or is an error.
+-- When a snapshot becomes lost, each sector of any device reads as before, or as an error.
 use Rattle.dm_map.proofs.Prelude.{inl, inr, ℕ, false, Option, Some, None, length, refl, sym, ap, ◌∙◌, cases_eq, ResolvedLine, ResolvedTarget, Lower, Device, Disk, Below, Lies, IsError, below_line, below_target, found_at, Description, lower_depth, IsSound, Values, Stays, content, value_read, by_below, read_below, read_over, lost, put, State, Taken, taken_at}
 use Rattle.dm_stack.specs.declared.lines.resolved_line.ResolvedTarget.TheVariants as founds
 use Rattle.dm_map.proofs.walk.OneLevel.{by_depth, next_depth, read_disk}
@@ -6,7 +6,7 @@ use Rattle.dm_map.proofs.walk.ChunkTaking.{taken_other, taken_same}
 use Rattle.dm_map.proofs.own.Takes.{content_down, next_same}
 use Rattle.std.specs.Prelude.{◌≡◌, ◌⊎◌, ◌-◌, ◌<◌}
 
--- What stays, or is an error, twice
+-- Staying the same or becoming an error, twice in a row
 
 pub stays_on : {V : Type 0} (a b c : Option V) → Stays a b → Stays b c → Stays a c
 stays_on a b c (inl same) (inl again) = inl (again ∙ same)
@@ -17,7 +17,7 @@ pub stays_as : {V : Type 0} (a b c d : Option V) → a ≡ c → b ≡ d → Sta
 stays_as a b c d p q (inl same) = inl (q ∙ same ∙ sym p)
 stays_as a b c d p q (inr gone) = inr (q ∙ gone)
 
--- Where a read goes on: as before, or nowhere
+-- Where a read continues once the snapshot is lost: as before, or nowhere
 
 lost_target : (old taken : Taken) (target : ResolvedTarget) (distance : ℕ) → taken.valid ≡ false → (below_target (read_over taken) target distance ≡ below_target (read_over old) target distance) ⊎ (below_target (read_over taken) target distance ≡ IsError)
 lost_target old taken (founds.Snapshot snapshot) distance off = inr (rw off refl)
@@ -36,7 +36,7 @@ lost_next stack state device e sector there = elim (cases_eq e device) [
   | inr differ ↦ inl (next_same stack state (put state device (lost (taken_at state device))) e sector (taken_other state device e (lost (taken_at state device)) differ))
 ]
 
--- What sectors have
+-- What sectors read as once the snapshot is lost
 
 stays_below : {V : Type 0} (zeros : V) (b : Below) (f h : Lower → ℕ → Option V) → ((to : Lower) (at : ℕ) → b ≡ Lies to at → Stays (f to at) (h to at)) → Stays (by_below b (Some zeros) None f) (by_below b (Some zeros) None h)
 stays_below zeros (Lies to at) f h each = each to at refl

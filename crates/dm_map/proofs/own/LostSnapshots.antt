@@ -1,4 +1,4 @@
--- When a snapshot is lost: exactly by a chunk that is due and can't be taken; and what is lost stays so.
+-- A snapshot becomes lost exactly by a due chunk that can't be taken, and stays lost.
 use Rattle.dm_map.proofs.Prelude.{inl, inr, ℕ, zero, suc, Bool, true, false, cond, not, List, [], None, length, nat_lt, replicate, refl, sym, ap, ◌∙◌, arith, is_some, AllByRecursion, cases_Bool, cases_eq, cases_lt, le-ltb, ltb-false, not-false, or_parts, set_past, true≢false, Op, Lower, Device, Description, device_len, IsSound, state_past, AreLosing, Due, HasError, IsLosing, IsLostIn, due, write, has_place, number_in, State, Taken, lost, put, taken_at, with_chunk, request_step, sector_step, any_error, can_take, copies, count_of, first_of, is_error, is_settled, read, row, take_chunk, Step, keep, steps, BlockUnit, Fails}
 use Rattle.dm_table.specs.declared.requests.request.Op.TheVariants as ops
 use Rattle.dm_stack.specs.declared.checks.graph.TheConstants.{MOST_DEPTH}
@@ -8,7 +8,7 @@ use Rattle.dm_map.proofs.walk.ChunkTaking.{Settled, Took, Lost, ChunkOutcome, ch
 use Rattle.dm_map.proofs.walk.Settled.{take_chunk_keeps}
 use Rattle.std.specs.Prelude.{◌≡◌, ◌⊎◌, ◌+◌, ◌<◌, ◌≤◌, ◌∷◌, ◌↔◌, ◌&&◌, ◌||◌}
 
--- A sector of a row that is an error
+-- A sector that reads as an error, among consecutive ones
 
 is_failing : (unit : BlockUnit) → is_error unit ≡ true → unit ≡ Fails
 is_failing Fails e = refl
@@ -42,7 +42,7 @@ error_here f sector (suc len) at from before fails = elim (cases_eq sector at) [
     either true b e = refl
     either false b e = e
 
--- A chunk can't be taken exactly where there is no place, or a sector of it is an error
+-- A chunk can't be taken exactly if the store is full or one of its sectors reads as an error
 
 cant : (placed : Bool) (errors : Bool) → (placed && not errors) ≡ false → (placed ≡ false) ⊎ (errors ≡ true)
 cant false errors e = inl refl
@@ -71,7 +71,7 @@ not_why stack state one why = cant_back (has_place stack one.snapshot (length (t
   | inr error ↦ inr (error_here (read stack state one.snapshot.origin) (first_of one.snapshot one.chunk) (count_of stack one.snapshot one.device one.chunk) error.sector error.from error.before error.fails)
 ])
 
--- One chunk
+-- A snapshot becomes lost by one chunk
 
 valid_put : (state : State) (device other : ℕ) (taken : Taken) → device < length state → taken.valid ≡ true → (taken_at state other).valid ≡ true → (taken_at (put state device taken) other).valid ≡ true
 valid_put state device other taken there valid was = elim (cases_eq other device) [
@@ -120,7 +120,7 @@ loses stack state device one there is =
     (copies stack state one.snapshot (length (taken_at state one.device).chunks) (first_of one.snapshot one.chunk) (count_of stack one.snapshot one.device one.chunk)) there
     (not_settled (taken_at state one.device) one.chunk valid fresh) (not_why stack state one why))
 
--- What is lost stays so
+-- A lost snapshot stays lost
 
 gone_put : (state : State) (device other : ℕ) (taken : Taken) → (other ≡ device → taken.valid ≡ false) → (taken_at state other).valid ≡ false → (taken_at (put state device taken) other).valid ≡ false
 gone_put state device other taken gone was = elim (cases_eq other device) [
@@ -144,7 +144,7 @@ gone_all : (stack : Description) (state : State) (device : ℕ) (dues : List Due
 gone_all stack state device [] gone = gone
 gone_all stack state device (one ∷ later) gone = gone_all stack (due_taken stack state one) device later (gone_one stack state device one gone)
 
--- Chunks one after the other
+-- A snapshot becomes lost by one of several chunks, taken in order
 
 pub due_there : (stack : Description) (state : State) (one : Due) → IsSound stack → length state ≡ length stack.devices → IsDue stack one → one.device < length state
 due_there stack state one sound count is = let there = (snapshot_sound stack one.device one.snapshot sound is.is).there in omega (arith, there, count)
@@ -165,7 +165,7 @@ all_lose stack state device [] sound count each losing = absurd losing
 all_lose stack state device (one ∷ later) sound count each (inl first) = gone_all stack (due_taken stack state one) device later (loses stack state device one (due_there stack state one sound count each.0) first)
 all_lose stack state device (one ∷ later) sound count each (inr rest) = all_lose stack (due_taken stack state one) device later sound (count_kept stack state one ∙ count) each.1 rest
 
--- The write of a sector
+-- A snapshot becomes lost by the write of a sector
 
 pub write_loses : (stack : Description) (state : State) (lower : Lower) (sector device : ℕ) → IsSound stack → length state ≡ length stack.devices → (taken_at state device).valid ≡ true
     → ((taken_at (write stack state lower sector).state device).valid ≡ false) ↔ AreLosing stack state device (due stack state lower sector)
@@ -183,9 +183,9 @@ all_count : (stack : Description) (state : State) (dues : List Due) → length (
 all_count stack state [] = refl
 all_count stack state (one ∷ later) = all_count stack (due_taken stack state one) later ∙ count_kept stack state one
 
--- The sectors of a request
+-- A snapshot becomes lost by one of a request's sectors
 
--- the state after the first sectors of one that doesn't pass the end of its device
+-- the state after the first sectors of a request that doesn't pass the end of its device
 abbrev pub state_at : Description → Op → (asked start sectors : ℕ) → State → State
 state_at stack op asked start sectors state = (steps (sector_step stack op MOST_DEPTH (Device asked)) state start sectors).state
 
@@ -206,7 +206,7 @@ step_loses : (stack : Description) (op : Op) (state : State) (asked sector devic
 step_loses stack ops.Read state asked sector device sound count valid gone = absurd (true≢false (sym valid ∙ gone))
 step_loses stack ops.Write state asked sector device sound count valid gone = (refl, (write_loses stack state (Device asked) sector device sound count valid).0 gone)
 
--- one of them lost it
+-- the write of one of these sectors makes the snapshot lost
 record IsLostAt (stack : Description) (state : State) (device : ℕ) (op : Op) (asked start sectors : ℕ) : Type 0 where
   at : ℕ
   within : at < sectors
@@ -250,7 +250,7 @@ sectors_lost stack state op asked start (suc sectors) device (suc at) sound coun
     let same : start + suc at ≡ suc start + at = omega arith in
     sectors_lost stack after op asked (suc start) sectors device at sound (step_count stack op state asked start ∙ count) (omega (arith, within)) writes (rw same at losing)
 
--- A request, which may pass the end of its device: then it changes nothing
+-- Requests that may pass the end of their device, and then change nothing
 
 abbrev pub past_by : Bool → Description → Op → (asked start sectors : ℕ) → State → State
 past_by past stack op asked start sectors state = cond past state (state_at stack op asked start sectors state)

@@ -1,4 +1,4 @@
--- Where no line is an `error` line and each store has room for all chunks of its snapshot, no snapshot is lost and no read is an error.
+-- If no line is an `error` line and each store has room for all chunks of its snapshot, no snapshot is ever lost and no read fails.
 use Rattle.dm_map.proofs.Prelude.{inl, inr, ℕ, Bool, true, false, List, [], Option, Some, None, length, nat_eq, refl, sym, ap, subst, ◌∙◌, arith, AllByRecursion, IsDistinct, list_any, le-div_iff_mul-le, cases_eq, eqb-true, le-leb, true_from_ne_false, length-append, length-le_from_distinct_below, true≢false, none-some, Op, Line, Target, Lower, Device, ResolvedLine, ResolvedSnapshot, ResolvedTarget, all_append, IsSnapshotSound, found_at, resolved_target, holds, line_of, place_count, IsTidy, IsTop, Description, device_len, lines_at, lower_len, HasGoodChunk, IsSound, device_sound, found, lines_there, of_device, there, AreOwnChunks, AreExact, IsAmple, IsAmpleTarget, IsIntact, TookOwn, chunk_count, Stays, Values, content, played, sector_past, value_read, AtError, AtLost, EndsHere, halted_state, halted_units, state_past, Due, HasError, IsLosing, AreOwn, Rows, first_rows, rows_played, IsFitting, number_in, State, Taken, lost, put, start_state, taken_at, with_chunk, snapshot_at, request_step, read, take_chunk, Step, BlockUnit, Fails}
 use Rattle.dm_table.specs.declared.tables.table.Target.TheVariants as targets
 use Rattle.dm_stack.specs.declared.checks.graph.TheConstants.{MOST_DEPTH}
@@ -19,7 +19,7 @@ use Rattle.dm_map.proofs.state.Numbers.{distinct_more}
 use Rattle.dm_map.proofs.walk.ChunkTaking.{Settled, Took, Lost, ChunkOutcome, chunk_outcome, taken_other, taken_same, none_at}
 use Rattle.std.specs.Prelude.{◌≡◌, ◌+◌, ◌-◌, ◌*◌, ◌/◌, ◌<◌, ◌≤◌, ◌∷◌, ◌++◌, ◌||◌}
 
--- What the premise says of the line of a sector
+-- What an ample stack says about the line of a sector
 
 abbrev IsAmpleFound : Description → (len : ℕ) → ResolvedTarget → Type 0
 IsAmpleFound stack len founds.Error = ⊥
@@ -53,7 +53,7 @@ ample_room stack device snapshot sound ample over =
     let len = whole.whole in
     rw len at (subst (IsAmpleFound stack first.0.len) first.2 (ample_line stack device 0 first.0 sound ample first.1))
 
--- No read is an error
+-- In an ample stack no read fails
 
 ends_never : (stack : Description) (state : State) (device sector : ℕ) → IsSound stack → IsAmple stack → IsIntact stack state → EndsHere stack state device sector → ⊥
 ends_never stack state device sector sound ample intact (AtError line is target) = ample_error stack device sector line sound ample is target
@@ -64,7 +64,7 @@ never_fails stack state lower sector sound ample intact inside fails =
     let meets = meets_error stack state lower sector sound intact.fits inside fails in
     ends_never stack state meets.device meets.sector sound ample intact meets.ends
 
--- A chunk that isn't taken yet finds a place
+-- In an ample stack the store has room for a chunk that isn't taken yet
 
 listed_by : (x count chunk : ℕ) (here later : Bool) → x < count → nat_eq chunk x ≡ here → (later ≡ true → chunk < count) → (here || later) ≡ true → chunk < count
 listed_by x count chunk true later first is rest e = let same = eqb-true chunk x is in omega (arith, same, first)
@@ -83,7 +83,7 @@ one_more chunk len taken chunks are fresh inside = record {
 few : (chunk len : ℕ) (chunks : List ℕ) → AreOwnChunks chunk len chunks → length chunks ≤ chunk_count chunk len
 few chunk len chunks are = length-le_from_distinct_below chunks (chunk_count chunk len) are.once (λ taken is. listed chunks (chunk_count chunk len) taken are.own is)
 
--- a chunk that begins inside of a device is one of its chunks
+-- a chunk that starts inside a device is one of the device's chunks
 pub chunk_inside : (chunk len taken : ℕ) → 0 < chunk → taken * chunk < len → taken < chunk_count chunk len
 chunk_inside chunk len taken some inside =
     let whole : taken + 1 ≤ (len + (chunk - 1)) / chunk = (le-div_iff_mul-le {x = taken + 1} {y = len + (chunk - 1)} some).1 (omega (arith, inside, some)) in
@@ -103,7 +103,7 @@ placed stack state one sound ample intact is fresh =
     let below : length chunks < place_count one.snapshot.kind one.snapshot.chunk (lower_len stack one.snapshot.store) = omega (arith, more, room, longer) in
     le-leb _ _ ((has_place one.snapshot.kind one.snapshot.chunk (lower_len stack one.snapshot.store) (length chunks) some).0 below)
 
--- so it loses no snapshot
+-- In an ample stack no due chunk makes a snapshot lost
 
 error_never : (stack : Description) (state : State) (one : Due) → IsSound stack → IsAmple stack → IsIntact stack state → IsDue stack one → HasError stack state one → ⊥
 error_never stack state one sound ample intact is error =
@@ -120,7 +120,7 @@ never_losing stack state device one sound ample intact is losing = elim losing.w
   | inr error ↦ error_never stack state one sound ample intact is error
 ]
 
--- A chunk that is due leaves each snapshot chunks of its own, in any stack
+-- In any stack, after a due chunk every snapshot still has only chunks of its own, none twice
 
 put_own : (stack : Description) (state : State) (device : ℕ) (taken : Taken) → device < length state → TookOwn stack state
     → ((over : ResolvedSnapshot) → snapshot_at stack device ≡ Some over → AreOwnChunks over.chunk (device_len stack device) taken.chunks) → TookOwn stack (put state device taken)
@@ -147,7 +147,7 @@ due_own : (stack : Description) (state : State) (one : Due) → IsSound stack �
 due_own stack state one sound is own there =
     outcome_own stack state one (take_chunk stack one.snapshot one.device one.chunk state) sound is own there (chunk_outcome stack one.snapshot one.device one.chunk state)
 
--- and where nothing can be lost, all intact
+-- In an ample stack, no snapshot is lost after a due chunk
 
 due_intact : (stack : Description) (state : State) (one : Due) → IsSound stack → IsAmple stack → IsDue stack one → IsIntact stack state → IsIntact stack (due_taken stack state one)
 due_intact stack state one sound ample is intact =
@@ -159,9 +159,9 @@ due_intact stack state one sound ample is intact =
       chunks = due_own stack state one sound is intact.chunks there;
     }
 
--- So does a request
+-- Requests preserve the chunks that snapshots have, and, in an ample stack, that none is lost
 
--- a state that the stack can be in, of which each snapshot took its own chunks
+-- the stack can be in this state, in which each snapshot has only chunks of its own, none twice
 pub record IsOwn (stack : Description) (state : State) : Type 0 where
   pub fits : IsFitting stack state
   pub chunks : TookOwn stack state
@@ -193,7 +193,7 @@ start_intact stack = record {
   chunks = λ device snapshot over. rw (none_at (length stack.devices) device) (record { once = distinct_none; own = tt });
 }
 
--- Each top device has its row
+-- In an ample stack, each sector of a top device reads as its row says
 
 record HasValue {V : Type 0} (given : Option V) : Type 0 where
   value : V

@@ -1,4 +1,4 @@
--- Where no claims meet, each top device has what it would have alone, or errors, after any request of a top device.
+-- If no claims clash, each sector of a top device reads as its row says, or as an error, after any request to a top device.
 use Rattle.dm_map.proofs.Prelude.{inl, inr, ℕ, zero, suc, Bool, true, false, cond, List, [], append_assoc, length, take, drop, Some, nat_lt, replicate, refl, sym, ap, ◌∙◌, arith, AllByRecursion, cases_eq, append-nil, length-append, take-append-drop, take-append-le, Op, Device, IsTidy, IsTop, Description, device_len, IsSound, Values, answers, played, played_unit, sector_after, sector_past, stored, value_read, Home, request_step, sector_step, IsOwnWrite, write, AreOwn, Rows, first_rows, row_unit, rows_played, read, State, start_state, Step, keep, steps, BlockUnit, ReadOf, WriteOf, Fails, CopyOf, FillOf, past-append, all_front}
 use Rattle.dm_table.specs.declared.requests.request.Op.TheVariants as ops
 use Rattle.dm_stack.specs.declared.checks.graph.TheConstants.{MOST_DEPTH}
@@ -8,7 +8,7 @@ use Rattle.dm_map.proofs.own.OwnWrites.{own_write, start_fits}
 use Rattle.dm_map.proofs.own.Plays.{after_false, played_on, stored_other, stored_same}
 use Rattle.std.specs.Prelude.{◌≡◌, ◌⊎◌, ◌+◌, ◌<◌, ◌∷◌, ◌++◌}
 
--- Units before the one that answers
+-- The units before the one that answers
 
 row_still : {V : Type 0} (written : V) (device sector : ℕ) (unit : BlockUnit) (rows : Rows V) → answers unit ≡ false → row_unit written device sector unit rows ≡ rows
 row_still written device sector (WriteOf disk at) rows moves = absurd cc
@@ -39,7 +39,7 @@ past_moved (u ∷ us) at each = ap (sector_past us) (after_false u at each.0) �
 past_on : (us vs : List BlockUnit) (at : ℕ) → AllByRecursion (λ unit. answers unit ≡ false) us → sector_past (us ++ vs) at ≡ sector_past vs at
 past_on us vs at each = past-append us vs at ∙ ap (sector_past vs) (past_moved us at each)
 
--- the units of one sector, and those of the sectors after it
+-- the units of one sector, and then those of the sectors after it
 
 past_first : (last : BlockUnit) (vs : List BlockUnit) (at : ℕ) → answers last ≡ true → sector_past (last ∷ vs) at ≡ sector_past vs (suc at)
 unfolding sector_past
@@ -57,7 +57,7 @@ played_none : {V : Type 0} (zeros : V) (written : ℕ → V) (sector : ℕ) (val
 unfolding played
 played_none zeros written sector values = refl
 
--- The unit that answers
+-- The unit that answers: a write to a disk, or one that changes nothing
 
 data Answering (V : Type 0) (unit : BlockUnit) : Type 0 where
   WritesTo : (disk at : ℕ) → unit ≡ WriteOf disk at → Answering V unit
@@ -82,7 +82,7 @@ same_or_not a b c d = elim (cases_eq a c) [
   ]
 ]
 
--- One sector
+-- The step of one sector
 
 last_own : {V : Type 0} (zeros : V) (written : ℕ → V) (stack : Description) (state : State) (top sector : ℕ) (step : Step) (values : Values V) (rows : Rows V) (w : IsOwnWrite zeros written stack state top sector step) → AreOwn zeros stack step.state values rows → Answering V w.last
     → AreOwn zeros stack step.state (played_unit zeros (written sector) w.last values) (row_unit (written sector) top sector w.last rows)
@@ -97,7 +97,7 @@ last_own {V = V} zeros written stack state top sector step values rows w own (Wr
       ];
     })
 
--- what is known of the step of a sector, where each top device has its row before: of all its units, whatever units come after, and of fewer
+-- what is known of a sector's step if each top device read as its row said, or as an error, before: about all of its units, with any units after them, and about its first units
 pub record IsOwnStep {V : Type 0} (zeros : V) (written : ℕ → V) (stack : Description) (top : ℕ) (state : State) (sector : ℕ) (step : Step) (values : Values V) (rows : Rows V) : Type 0 where
   pub later : Values V
   pub after : Rows V
@@ -112,12 +112,12 @@ pub both_own : {V : Type 0} (zeros : V) (stack : Description) (state : State) (v
 both_own {V = V} zeros stack state values others rows more same equal own =
     rw (same, equal) own
 
--- no units
+-- before any unit is done
 pub none_own : {V : Type 0} (zeros : V) (written : ℕ → V) (stack : Description) (state : State) (top sector : ℕ) (values : Values V) (rows : Rows V) → AreOwn zeros stack state values rows
     → AreOwn zeros stack state (played zeros written sector [] values) (rows_played written top sector [] rows)
 none_own zeros written stack state top sector values rows own = both_own zeros stack state _ _ _ _ (played_none zeros written sector values) (rows_none written top sector rows) own
 
--- fewer units than a write has are some of its copies and fills
+-- the first n units of a write, if not all, are the first n of its copies and fills
 fewer : (front : List BlockUnit) (last : BlockUnit) (units : List BlockUnit) (n : ℕ) → units ≡ front ++ last ∷ [] → n < length units → take n units ≡ take n front
 fewer front last units n is below =
     ap (take n) is ∙ take-append-le n front (last ∷ []) (omega (arith, below, ap length is, length-append front (last ∷ [])))
@@ -147,7 +147,7 @@ write_own {V = V} zeros written stack state top sector values rows sound tidy is
       none = λ n at below. cc (fewer w.front w.last step.units n w.units below, past_moved (take n w.front) at (moves n));
     }
 
--- a read, whose unit answers and changes nothing
+-- the unit of a read answers its sector and changes nothing
 read_still : {V : Type 0} (zeros written : V) (device sector : ℕ) (unit : BlockUnit) (values : Values V) (rows : Rows V) → IsRead unit → (answers unit ≡ true) × (played_unit zeros written unit values ≡ values) × (row_unit written device sector unit rows ≡ rows)
 read_still zeros written device sector unit values rows (Sector disk at is) = rw is (refl, refl, refl)
 read_still zeros written device sector unit values rows (Nothing is) = rw is (refl, refl, refl)
@@ -183,7 +183,7 @@ step_own zeros written stack ops.Read state top sector values rows sound tidy is
     read_own zeros written stack state top sector (read stack state (Device top) sector) values rows (is_read stack state MOST_DEPTH (Device top) sector) own
 step_own zeros written stack ops.Write state top sector values rows sound tidy is_top own = write_own zeros written stack state top sector values rows sound tidy is_top own
 
--- A request
+-- The steps of a request
 
 fails_own : {V : Type 0} (zeros : V) (written : ℕ → V) (stack : Description) (state : State) (top start len : ℕ) (values : Values V) (rows : Rows V) → AreOwn zeros stack state values rows
     → AreOwn zeros stack state (played zeros written start (replicate len Fails) values) (rows_played written top start (replicate len Fails) rows)

@@ -1,4 +1,4 @@
--- Where no claims meet, no top device sees another's writes.
+-- If no claims clash, no top device reads what another one writes.
 use Rattle.dm_map.proofs.Prelude.{ℕ, length, refl, ap, arith, length-replicate, Device, IsTidy, IsTop, Description, IsSound, IsFitting, IsOwnWrite, write, State, none_taken, start_state, Node, node, Touches, take_chunks, all_front}
 use Rattle.dm_map.proofs.own.UniqueSteps.{no_step_to_top, top_root, top_unserved}
 use Rattle.dm_map.proofs.walk.ReadSteps.{read_step}
@@ -9,7 +9,7 @@ use Rattle.dm_map.proofs.own.Written.{written}
 use Rattle.dm_map.proofs.walk.ChunkTaking.{none_at}
 use Rattle.std.specs.Prelude.{◌≡◌, ◌<◌}
 
--- nothing but itself leads to a sector of a top device
+-- the only way that reaches a sector of a top device starts there
 top_touched : (stack : Description) (state : State) (a : Node) (top sector : ℕ) → IsSound stack → IsTop stack top → Touches stack state a (node (Device top) sector) → a ≡ node (Device top) sector
 top_touched stack state a top sector sound is_top touches = elim (back stack state a (node (Device top) sector) touches) [
   | Here e ↦ e
@@ -46,7 +46,7 @@ own_write {V = V} zeros value stack state top sector sound tidy fitting is_top =
           (device_is other top (ap (λ (n : Node). n.lower) same), ap (λ (n : Node). n.sector) same);
     }
 
--- At the start
+-- The state at the start fits the stack
 
 pub start_fits : (stack : Description) → IsFitting stack (start_state stack)
 start_fits stack = record {

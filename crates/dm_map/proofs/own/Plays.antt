@@ -1,11 +1,11 @@
--- The play of units: of copies in a row, and of units after others.
+-- The values that disks hold after units: after a row of copies, and after one list of units and another.
 use Rattle.dm_map.proofs.Prelude.{inl, inr, ℕ, zero, suc, Bool, true, false, cond, List, [], Some, refl, arith, AllByRecursion, and_parts, eqb-true, eq-eqb, cases_lt, Values, answers, played, played_unit, sector_after, stored, value_read, Home, copy_to, row, BlockUnit, ReadOf, Zeros}
 use Rattle.std.specs.Prelude.{◌≡◌, ◌+◌, ◌<◌, ◌≤◌, ◌&&◌, ◌∷◌, ◌++◌, ◌==◌}
 
 abbrev pub home_at : (disk sector : ℕ) → Home
 home_at disk sector = record { disk = disk; sector = sector }
 
--- One value that is stored
+-- Storing a single value
 
 pub stored_same : {V : Type 0} (values : Values V) (disk sector : ℕ) (value : V) → stored values disk sector value disk sector ≡ value
 stored_same values disk sector value = rw (eq-eqb disk disk refl, eq-eqb sector sector refl) refl
@@ -22,12 +22,12 @@ stored_other values to to_sector disk sector value differ =
 
 -- A row of copies
 
--- a unit of a read that is no error
+-- the unit of a read that doesn't fail
 pub data IsReadable (unit : BlockUnit) : Type 0 where
   Reads : (disk sector : ℕ) → unit ≡ ReadOf disk sector → IsReadable unit
   AreZeros : unit ≡ Zeros → IsReadable unit
 
--- what a copy of what a unit reads stores
+-- the value that a copy stores, by the unit that reads its source
 abbrev pub value_of : {V : Type 0} → (zeros : V) → Values V → BlockUnit → V
 value_of zeros values (ReadOf disk sector) = values disk sector
 value_of zeros values unit = zeros
@@ -45,7 +45,7 @@ played_copy zeros written at unit to rest values = refl
 abbrev pub copy_units : (ℕ → BlockUnit) → (ℕ → Home) → (sector len : ℕ) → List BlockUnit
 copy_units from to sector len = row (λ u. copy_to (from u) (to u)) sector len
 
--- what is no target keeps its value
+-- a sector that is no target of the copies keeps its value
 pub copies_keep : {V : Type 0} (zeros : V) (written : ℕ → V) (at : ℕ) (from : ℕ → BlockUnit) (to : ℕ → Home) (s n : ℕ) (values : Values V) (disk sector : ℕ) → ((u : ℕ) → s ≤ u → u < s + n → to u ≡ home_at disk sector → ⊥)
     → played zeros written at (copy_units from to s n) values disk sector ≡ values disk sector
 unfolding played
@@ -57,7 +57,7 @@ value_kept : {V : Type 0} (zeros : V) (values others : Values V) (unit : BlockUn
 value_kept zeros values others (ReadOf disk sector) same = same disk sector refl
 value_kept zeros values others unit same = refl
 
--- targets are fresh: no two are one sector, and none is a source
+-- the targets of the copies are all different, and none of them is a source
 pub record AreFreshTargets (reads : ℕ → BlockUnit) (homes : ℕ → Home) (s n : ℕ) : Type 0 where
   pub targets : (u v : ℕ) → s ≤ u → u < s + n → s ≤ v → v < s + n → homes u ≡ homes v → u ≡ v
   pub sources : (u v disk sector : ℕ) → s ≤ u → u < s + n → s ≤ v → v < s + n → reads u ≡ ReadOf disk sector → homes v ≡ home_at disk sector → ⊥
@@ -68,7 +68,7 @@ fresh_later from to s n fresh = record {
   sources = λ u v k x a b c d e f. fresh.sources u v k x (omega (arith, a)) (omega (arith, b)) (omega (arith, c)) (omega (arith, d)) e f;
 }
 
--- a target has the value that its source had before them all
+-- after the copies, each target has the value that its source had before
 pub copies_move : {V : Type 0} (zeros : V) (written : ℕ → V) (at : ℕ) (from : ℕ → BlockUnit) (to : ℕ → Home) (s n : ℕ) (values : Values V) (u : ℕ) → AreFreshTargets from to s n → s ≤ u → u < s + n
     → played zeros written at (copy_units from to s n) values (to u).disk (to u).sector ≡ value_of zeros values (from u)
 unfolding played
@@ -87,7 +87,7 @@ copies_move {V = V} zeros written at from to s (suc n) values u fresh low high =
     never : (v : ℕ) → suc s ≤ v → v ≡ s → ⊥
     never v a e = omega (arith, a, e)
 
--- Units after others
+-- One list of units after another
 
 pub after_false : (unit : BlockUnit) (sector : ℕ) → answers unit ≡ false → sector_after unit sector ≡ sector
 after_false unit sector moves = rw moves refl

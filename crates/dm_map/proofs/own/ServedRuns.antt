@@ -1,4 +1,4 @@
--- Snapshots that are served, as chunks taken one after the other.
+-- Serving the snapshots of an origin is taking the due chunks one after the other.
 use Rattle.dm_map.proofs.Prelude.{ℕ, List, [], refl, sym, ◌∙◌, AllByRecursion, ResolvedOver, Description, IsOfSnapshot, take_chunks, Due, due_over, IsOver, serve, take_chunk, State, and_then}
 use Rattle.dm_map.proofs.walk.Rows.{and_then_at, step_assoc}
 use Rattle.std.specs.Prelude.{◌≡◌, ◌/◌, ◌∷◌, ◌++◌}

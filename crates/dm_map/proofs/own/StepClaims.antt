@@ -1,4 +1,4 @@
--- Each step of a read goes by a claim: through a span of a line whose target has no state, through the store or the origin of a snapshot, or through the line of an origin.
+-- Each step of a read follows a claim: a span of a line without state, the store or the origin of a snapshot, or the line of an origin.
 use Rattle.dm_map.proofs.Prelude.{ℕ, [], Some, length, refl, sym, ap, ◌∙◌, arith, slice_get, DevRef, Line, Target, Use, Own, Reading, Serving, ResolvedLine, ResolvedOrigin, ResolvedSnapshot, Lower, target_spans, whole_span, IsTargetSound, Lies, below_plain, found_at, resolved_line, resolved_target, holds, line_of, Description, lines_at, lower_len, lower_of, origin_over, resolved_snapshot, IsSound, IsNamed, IsVia, origin_at, snapshot_at}
 use Rattle.dm_table.specs.declared.tables.table.Target.TheVariants as targets
 use Rattle.dm_stack.specs.declared.lines.resolved_line.ResolvedTarget.TheVariants as founds
@@ -7,7 +7,7 @@ use Rattle.dm_map.proofs.state.ResolvedLines.{first_line, first_origin, line_sou
 use Rattle.dm_map.proofs.walk.Spans.{IsPlainStep, plain_before, plain_span, span_distance, span_index}
 use Rattle.std.specs.Prelude.{◌≡◌, ◌+◌, ◌-◌, ◌<◌, ◌∷◌}
 
--- Through a line whose target has no state
+-- Steps through a line without state
 
 pub record IsLineVia (stack : Description) (device sector : ℕ) (line : ResolvedLine) (lower : Lower) (at : ℕ) : Type 0 where
   pub index : ℕ
@@ -48,7 +48,7 @@ via_line stack device sector line lower at sound is step =
       lies = cc;
     }
 
--- Through a snapshot
+-- Steps through a snapshot
 
 pub record IsSnapshotVia (stack : Description) (device : ℕ) (snapshot : ResolvedSnapshot) : Type 0 where
   pub index : ℕ
@@ -69,7 +69,7 @@ snapshot_spans stack len (targets.Snapshot origin store kind chunk_size) snapsho
     snapshot_is a b e = cc
 snapshot_spans stack len target snapshot is = absurd cc
 
--- what a line names as a whole: each sector of it is one that the line leads to
+-- a span that a line names in whole: a read can reach each of its sectors through the line
 record IsWholeVia (stack : Description) (device index column : ℕ) (it : Line) (lower : Lower) (kind : Use) : Type 0 where
   named : IsNamed stack device index column it lower
   via : (at : ℕ) → at < lower_len stack lower → IsVia stack device index column it lower at kind
@@ -110,7 +110,7 @@ via_snapshot stack device snapshot sound at =
       origin = origin.via;
     }
 
--- Through an origin's line
+-- Steps through the line of an origin
 
 pub record IsOriginVia (stack : Description) (device : ℕ) (origin : ResolvedOrigin) : Type 0 where
   pub index : ℕ

@@ -1,4 +1,4 @@
--- Chunks taken one after the other: what roots have stays, or is an error, and what is played on the way is touched by no root in the state before.
+-- Taking chunks one after the other: what roots read stays or becomes an error, and the copies write only what no root reads in the state before.
 use Rattle.dm_map.proofs.Prelude.{inl, inr, ℕ, zero, suc, false, List, [], length-append, Some, length, refl, ap, ◌∙◌, arith, AllByRecursion, cases_eq, ResolvedSnapshot, Lower, Disk, IsTidy, Description, lower_len, IsSound, IsOfSnapshot, take_chunks, Due, Values, Stays, answers, content, played, played_unit, sector_after, value_read, IsFitting, Home, store_sector, copy_to, count_of, first_of, home_in_store, read, take_chunk, row, lost, put, with_chunk, State, Taken, taken_at, Step, BlockUnit, ReadOf, Node, node, Touches, all_append}
 use Rattle.dm_map.proofs.own.UniqueSteps.{IsRoot}
 use Rattle.dm_map.proofs.state.ResolvedLines.{snapshot_sound}
@@ -13,7 +13,7 @@ use Rattle.dm_map.proofs.own.Takes.{IsTake, chunk_copies, new_number, take_keeps
 use Rattle.dm_map.proofs.own.WayLemmas.{read_touches}
 use Rattle.std.specs.Prelude.{◌≡◌, ◌+◌, ◌/◌, ◌<◌, ◌≤◌, ◌∷◌, ◌++◌}
 
--- A unit that copies or fills
+-- Copies and fills answer no sector
 
 copy_moves : (from : BlockUnit) (to : Home) → answers (copy_to from to) ≡ false
 copy_moves (ReadOf disk sector) to = refl
@@ -23,7 +23,7 @@ pub copy_only : {V : Type 0} (zeros written : V) (from : BlockUnit) (to : Home) 
 copy_only zeros written (ReadOf k x) to values disk sector differ = stored_other values to.disk to.sector disk sector (values k x) differ
 copy_only zeros written unit to values disk sector differ = stored_other values to.disk to.sector disk sector zeros differ
 
--- one that writes what no root touches in a state
+-- a unit that writes only a sector that no root reads in this state
 pub record IsFresh (stack : Description) (state : State) (unit : BlockUnit) : Type 0 where
   pub from : BlockUnit
   pub to : Home
@@ -41,7 +41,7 @@ pub all_row : (P : BlockUnit → Type 0) (f : ℕ → BlockUnit) (s n : ℕ) →
 all_row P f s zero each = tt
 all_row P f s (suc n) each = (each s (omega arith) (omega arith), all_row P f (suc s) n (λ u low high. each u (omega (arith, low)) (omega (arith, high))))
 
--- any number of them, also the first few of many, change nothing that a root has in that state
+-- any number of units that write only what no root reads change nothing that roots read
 
 fresh_keep : {V : Type 0} (zeros : V) (written : ℕ → V) (at : ℕ) (stack : Description) (state : State) (a : Node) (us : List BlockUnit) (values : Values V) (disk sector : ℕ) → IsRoot stack a.lower → AllByRecursion (IsFresh stack state) us → Touches stack state a (node (Disk disk) sector)
     → played zeros written at us values disk sector ≡ values disk sector
@@ -60,9 +60,9 @@ fresh_stays zeros written at stack state lower sector us values sound root each 
     value_kept zeros values (played zeros written at us values) (read stack state lower sector)
     (λ disk x is. fresh_keep zeros written at stack state (node lower sector) us values disk x root each (read_touches stack state lower sector disk x sound is))
 
--- Runs
+-- Taking several chunks
 
--- no list is shorter than it was
+-- every snapshot has at least as many chunks as in the old state
 pub record IsGrown (old state : State) : Type 0 where
   pub lists : (device : ℕ) → length (taken_at old device).chunks ≤ length (taken_at state device).chunks
 
@@ -84,7 +84,7 @@ outcome_grown stack old state device chunk snapshot step there grown (Taking tak
     rw is (grown_put old state device (with_chunk (taken_at state device) chunk) there grown (omega (arith, e)))
 outcome_grown stack old state device chunk snapshot step there grown (Losing is) = rw is (grown_put old state device (lost (taken_at state device)) there grown (omega arith))
 
--- what is copied for a chunk, seen from a state before
+-- The copies for a chunk write only what no root reads in an earlier state
 
 copies_fresh : (stack : Description) (old state : State) (device chunk : ℕ) (snapshot : ResolvedSnapshot) → IsSound stack → IsFitting stack old → IsTidy stack → IsGrown old state → IsTake stack state device chunk snapshot
     → AllByRecursion (IsFresh stack old) (chunk_copies stack state device chunk snapshot)
@@ -118,7 +118,7 @@ outcome_stays zeros written at stack state values device chunk snapshot lower se
 pub snapshot_there : (stack : Description) (state : State) (one : Due) → IsSound stack → IsFitting stack state → IsOfSnapshot stack one → one.device < length state
 snapshot_there stack state one sound fitting is = let there = (snapshot_sound stack one.device one.snapshot sound is).there in let count = fitting.count in omega (arith, there, count)
 
--- what such a run does, seen from a state before it
+-- what taking chunks does, as seen from an earlier state
 pub record IsRun (stack : Description) (old state : State) (step : Step) : Type 0 where
   pub fits : IsFitting stack step.state
   pub grown : IsGrown old step.state
@@ -137,7 +137,7 @@ ran stack old state (e ∷ es) sound fit_old fitting tidy grown each =
     let later = ran stack old step.state es sound fit_old fits tidy more each.1 in
     record { fits = later.fits; grown = later.grown; fresh = all_append (IsFresh stack old) step.units (take_chunks stack es step.state).units fresh later.fresh }
 
--- what a root has stays, or is an error
+-- after taking chunks, what a root reads is unchanged or an error
 pub run_stays : {V : Type 0} (zeros : V) (written : ℕ → V) (at : ℕ) (stack : Description) (state : State) (dues : List Due) (values : Values V) (lower : Lower) (sector : ℕ) → IsSound stack → IsFitting stack state → IsTidy stack → AllByRecursion (IsOfSnapshot stack) dues → IsRoot stack lower
     → Stays (content zeros stack state values lower sector) (content zeros stack (take_chunks stack dues state).state (played zeros written at (take_chunks stack dues state).units values) lower sector)
 unfolding take_chunks played

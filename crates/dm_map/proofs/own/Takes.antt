@@ -1,4 +1,4 @@
--- A chunk that is taken changes nothing of what a root has.
+-- Taking a chunk changes nothing that a root reads.
 use Rattle.dm_map.proofs.Prelude.{inl, inr, ℕ, true, List, [], Option, Some, None, length, refl, sym, ap, ◌∙◌, arith, cases_eq, ResolvedLine, ResolvedSnapshot, Lower, Device, Disk, Below, Lies, found_at, IsTidy, Description, lower_len, lower_depth, place, IsSound, Values, content, played, value_read, IsFitting, by_below, read_below, store_sector, number_in, read_numbered, read_over, copies, count_of, first_of, home_in_store, read, put, with_chunk, State, Taken, taken_at, snapshot_at, BlockUnit, Zeros, Fails, Node, node, Touches}
 use Rattle.dm_stack.specs.declared.checks.graph.TheConstants.{MOST_DEPTH}
 use Rattle.dm_map.proofs.own.UniqueSteps.{IsRoot, origin_root}
@@ -13,7 +13,7 @@ use Rattle.dm_map.proofs.state.TableLemmas.{number_within}
 use Rattle.dm_map.proofs.own.WayLemmas.{read_touches, touch_more, touch_self}
 use Rattle.std.specs.Prelude.{◌≡◌, ◌⊎◌, ◌+◌, ◌-◌, ◌*◌, ◌/◌, ◌%◌, ◌<◌, ◌≤◌, ◌∷◌}
 
--- What a sector has, one step down
+-- The value of a sector, by the value of the sector below it
 
 value_below : {V : Type 0} (zeros : V) (values : Values V) (b : Below) (f : Lower → ℕ → BlockUnit) → value_read zeros values (by_below b Zeros Fails f) ≡ by_below b (Some zeros) None (λ to at. value_read zeros values (f to at))
 value_below zeros values (Lies to at) f = refl
@@ -24,7 +24,7 @@ pub content_down : {V : Type 0} (zeros : V) (stack : Description) (state : State
 content_down zeros stack state values device sector sound =
     ap (value_read zeros values) (read_down stack state device sector sound) ∙ value_below zeros values (read_below stack state device sector) (λ to at. read stack state to at)
 
--- What it is to take a chunk
+-- What it means to take a chunk
 
 pub record IsTake (stack : Description) (state : State) (device chunk : ℕ) (snapshot : ResolvedSnapshot) : Type 0 where
   pub over : snapshot_at stack device ≡ Some snapshot
@@ -43,7 +43,7 @@ taken_state state device chunk = put state device (with_chunk (taken_at state de
 abbrev pub chunk_copies : Description → State → (device chunk : ℕ) → ResolvedSnapshot → List BlockUnit
 chunk_copies stack state device chunk snapshot = copies stack state snapshot (new_number state device) (first_of snapshot chunk) (count_of stack snapshot device chunk)
 
--- no taken chunk lies in the place of the new number
+-- no sector of a taken chunk is kept in the place of the new number
 new_is_fresh : (state : State) (device : ℕ) (snapshot : ResolvedSnapshot) (v t i : ℕ) → 0 < snapshot.chunk → number_in (t / snapshot.chunk) (taken_at state device).chunks ≡ Some i → store_sector snapshot (new_number state device) v ≡ store_sector snapshot i t → ⊥
 new_is_fresh state device snapshot v t i some is e =
     let parts = store_sector_parts snapshot (new_number state device) i v t some e in
@@ -69,7 +69,7 @@ take_fresh stack state device chunk snapshot sound fitting tidy take =
           (inside v) (λ t i is same. new_is_fresh state device snapshot v t i some is same) (rw e (read_touches stack state snapshot.origin u k x sound reads));
     }
 
--- Where a read goes on in the new state
+-- Where a read continues after the chunk is taken
 
 record IsMoved (stack : Description) (state : State) (device chunk : ℕ) (snapshot : ResolvedSnapshot) (e s : ℕ) : Type 0 where
   old : read_below stack state e s ≡ Lies snapshot.origin s
@@ -83,7 +83,7 @@ After stack state device chunk snapshot e s = (read_below stack (taken_state sta
 read_by : (taken : Taken) (snapshot : ResolvedSnapshot) (sector : ℕ) (number : Option ℕ) → taken.valid ≡ true → number_in (sector / snapshot.chunk) taken.chunks ≡ number → read_over taken snapshot sector ≡ read_numbered snapshot number sector
 read_by taken snapshot sector number valid is = rw (valid, is) refl
 
--- a step of a snapshot, by what it took
+-- where a read of a snapshot's sector continues, by the chunks that the snapshot took
 pub snapshot_next : (stack : Description) (state : State) (device sector : ℕ) (snapshot : ResolvedSnapshot) (line : ResolvedLine) (taken : Taken) → IsSound stack → snapshot_at stack device ≡ Some snapshot → found_at stack device sector ≡ Some line → taken_at state device ≡ taken
     → read_below stack state device sector ≡ read_over taken snapshot sector
 snapshot_next stack state device sector snapshot line taken sound over is taken_is =
@@ -130,7 +130,7 @@ after_line stack state device chunk sector snapshot sound take None is = inl (rw
 after_line stack state device chunk sector snapshot sound take (Some line) is =
     after_chunk stack state device chunk sector snapshot line sound take is (number_in (sector / snapshot.chunk) (taken_at state device).chunks) refl
 
--- a device whose table stays
+-- a device whose table is unchanged
 pub next_same : (stack : Description) (state other : State) (device sector : ℕ) → taken_at other device ≡ taken_at state device → read_below stack other device sector ≡ read_below stack state device sector
 next_same stack state other device sector same = cc
 
@@ -141,9 +141,9 @@ after stack state device chunk snapshot e s sound take = elim (cases_eq e device
   | inr differ ↦ inl (next_same stack state (taken_state state device chunk) e s (taken_other state device e (with_chunk (taken_at state device) chunk) differ))
 ]
 
--- What a root has
+-- What a root reads
 
--- what is touched on the way from a root
+-- every sector on a way from the root reads the same as before
 Appends : {V : Type 0} → (zeros : V) → Description → (state other : State) → (values later : Values V) → Node → Lower → Type 0
 Appends zeros stack state other values later a lower = (s : ℕ) → Touches stack state a (node lower s) → content zeros stack other later lower s ≡ content zeros stack state values lower s
 

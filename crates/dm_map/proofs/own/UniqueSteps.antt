@@ -1,4 +1,4 @@
--- Where no claims meet, at most one step of a read leads to a sector of a column, a store or an origin, and none to a top device.
+-- If no claims clash, at most one step of a read leads to a sector of a column, a store or an origin, and none leads to a top device.
 use Rattle.dm_map.proofs.Prelude.{ℕ, true, false, Option, Some, None, refl, sym, ap, ◌∙◌, arith, leb-true, true≢false, Line, Use, Own, Reading, Serving, ResolvedLine, ResolvedOrigin, ResolvedSnapshot, ResolvedTarget, Lower, Device, Lies, below_line, found_at, resolved_line, resolved_target, has_state, IsTidy, IsTop, Description, device_len, lower_len, snapshots_over, IsSound, IsVia, IsNamed, one_via, top_named, plain_inside, IsFitting, read_below, AreSettled, is_settled, store_sector, number_in, read_over, State, Taken, taken_at, origin_at, snapshot_at}
 use Rattle.dm_stack.specs.declared.lines.resolved_line.ResolvedTarget.TheVariants as founds
 use Rattle.dm_map.proofs.state.ResolvedLines.{line_sound, origin_sound, snapshot_sound}
@@ -12,7 +12,7 @@ use Rattle.std.specs.Prelude.{◌≡◌, ◌-◌, ◌/◌, ◌<◌}
 
 -- A line has one target
 
--- a target without a state is neither a snapshot nor an origin
+-- a target without state is neither a snapshot nor an origin
 no_plain : (target other : ResolvedTarget) (distance : ℕ) (lower : Lower) (at : ℕ) → target ≡ other → has_state other ≡ true → IsPlainStep target distance lower at → ⊥
 no_plain target other distance lower at is state step = cc
 
@@ -24,14 +24,14 @@ line_no_origin : (stack : Description) (device sector : ℕ) (line : ResolvedLin
 line_no_origin stack device sector line lower at l m origin is step same target =
     no_plain line.target (founds.Origin origin) (sector - line.start) lower at (cc) refl step
 
--- and no line is both
+-- a snapshot's line is not an origin's line
 snapshot_no_origin : (stack : Description) (l m : Line) (snapshot : ResolvedSnapshot) (origin : ResolvedOrigin) → resolved_target stack l.target ≡ founds.Snapshot snapshot → l ≡ m → resolved_target stack m.target ≡ founds.Origin origin → ⊥
 snapshot_no_origin stack l m snapshot origin is same target = cc
   where
     differ : founds.Snapshot snapshot ≡ founds.Origin origin → ⊥
     differ e = cc
 
--- What a taken chunk's number is inside of
+-- A step of a read leads inside the device or disk that it leads to
 
 pub fits : (stack : Description) (state : State) (device sector number : ℕ) (snapshot : ResolvedSnapshot) → IsSound stack → IsFitting stack state → snapshot_at stack device ≡ Some snapshot → number_in (sector / snapshot.chunk) (taken_at state device).chunks ≡ Some number
     → store_sector snapshot number sector < lower_len stack snapshot.store
@@ -40,15 +40,15 @@ fits stack state device sector number snapshot sound fitting at is =
     store_sector_inside snapshot number sector (lower_len stack snapshot.store) over.soundly.chunk_some
     (leb-true _ _ (fitting.places device number snapshot at (number_within (sector / snapshot.chunk) (taken_at state device).chunks number is)))
 
--- a read of the origin is inside of it
+-- the origin's sector that a snapshot reads lies in the origin
 pub read_inside : (stack : Description) (state : State) (device sector : ℕ) (snapshot : ResolvedSnapshot) → IsSound stack → snapshot_at stack device ≡ Some snapshot → sector < device_len stack device → sector < lower_len stack snapshot.origin
 read_inside stack state device sector snapshot sound at inside = let over = (snapshot_sound stack device snapshot sound at).soundly.origin in omega (arith, over, inside)
 
--- and so is that of what an origin's device names
+-- the sector that an origin's device reads lies in what the device names
 pub serve_inside : (stack : Description) (device sector : ℕ) (origin : ResolvedOrigin) → IsSound stack → origin_at stack device ≡ Some origin → sector < device_len stack device → sector < lower_len stack origin.to
 serve_inside stack device sector origin sound at inside = let same = (origin_sound stack device origin sound at).soundly.same in omega (arith, same, inside)
 
--- what goes on is inside its device
+-- a sector from which a read continues lies in its device
 inside_of : (stack : Description) (state : State) (device sector : ℕ) (lower : Lower) (at : ℕ) (line : Option ResolvedLine) → IsSound stack → found_at stack device sector ≡ line → below_line (read_over (taken_at state device)) line sector ≡ Lies lower at → sector < device_len stack device
 inside_of stack state device sector lower at None sound is e = absurd cc
 inside_of stack state device sector lower at (Some line) sound is e = (line_sound stack device sector line sound is).inside
@@ -65,7 +65,7 @@ pub record IsAt (d s e u : ℕ) : Type 0 where
 two_columns : (i j : ℕ) → i ≡ 0 → j ≡ 1 → i ≡ j → ⊥
 two_columns i j first second same = omega (arith, first, second, same)
 
--- to one of a line whose target has no state: that line's sector
+-- only the sector of a line without state leads to the sector below it
 pub only_by_line : (stack : Description) (state : State) (d s e t : ℕ) (lower : Lower) (at : ℕ) (line : ResolvedLine) → IsSound stack → IsFitting stack state → IsTidy stack → t < device_len stack e
     → found_at stack d s ≡ Some line → IsPlainStep line.target (s - line.start) lower at → ReadStep stack state e t lower at → IsAt e t d s
 only_by_line stack state d s e t lower at line sound fitting tidy inside is step (ByLine other is_other step_other) =
@@ -102,7 +102,7 @@ only_by_line stack state d s e t lower at line sound fitting tidy inside is step
     let one = one_via stack d e a.index b.index (span_index line.target (s - line.start)) 0 a.it b.it lower at Own Serving tidy a.via via refl in
     absurd (line_no_origin stack d s line lower at a.it b.it origin a.is step one.lines b.target)
 
--- to one of a store: its snapshot, by a taken chunk
+-- the step to a sector of the store starts in the snapshot, at a sector of a taken chunk
 pub record IsInStore (state : State) (device : ℕ) (snapshot : ResolvedSnapshot) (at e t : ℕ) : Type 0 where
   pub same : e ≡ device
   pub number : ℕ
@@ -135,7 +135,7 @@ only_by_store stack state d e t at snapshot sound fitting tidy inside over below
     let one = one_via stack d e a.index b.index 0 0 a.it b.it snapshot.store at Own Serving tidy (a.store at below) via refl in
     absurd (snapshot_no_origin stack a.it b.it snapshot origin a.target one.lines b.target)
 
--- Roots: no line leads into them, and they are no store
+-- Roots: devices and disks that no line without state leads to and that are no store
 
 pub record IsNoLines (stack : Description) (lower : Lower) : Type 0 where
   pub none : (device sector : ℕ) (line : ResolvedLine) (at : ℕ) → found_at stack device sector ≡ Some line → IsPlainStep line.target (sector - line.start) lower at → ⊥
@@ -143,7 +143,7 @@ pub record IsNoLines (stack : Description) (lower : Lower) : Type 0 where
 pub record IsNoStore (stack : Description) (lower : Lower) : Type 0 where
   pub none : (device : ℕ) (snapshot : ResolvedSnapshot) → snapshot_at stack device ≡ Some snapshot → lower ≡ snapshot.store → ⊥
 
--- no line leads into a store or an origin, and no store is an origin
+-- No line without state leads to a store or an origin, and no store is an origin
 
 pub step_inside : (stack : Description) (device sector : ℕ) (line : ResolvedLine) (lower : Lower) (at : ℕ) → IsSound stack → found_at stack device sector ≡ Some line → IsPlainStep line.target (sector - line.start) lower at → at < lower_len stack lower
 step_inside stack device sector line lower at sound is step =
@@ -151,7 +151,7 @@ step_inside stack device sector line lower at sound is step =
     let from = of.from in let before = of.before in
     plain_inside stack device line.start line.len (sector - line.start) line.target lower at of.target (omega (arith, from, before)) step.plain step.lies
 
--- nor into what a snapshot's line names at a column
+-- no line without state leads to a device or disk that a snapshot's line names
 named_no_lines : (stack : Description) (device column : ℕ) (snapshot : ResolvedSnapshot) (lower : Lower) (kind : Use) → IsSound stack → IsTidy stack → (b : IsSnapshotVia stack device snapshot)
     → ((at : ℕ) → at < lower_len stack lower → IsVia stack device b.index column b.it lower at kind) → IsNoLines stack lower
 named_no_lines stack device column snapshot lower kind sound tidy b via = record {
@@ -179,16 +179,16 @@ origin_no_store stack device snapshot sound tidy over = record {
       two_columns 0 1 refl refl one.columns;
 }
 
--- What an origin's device names
+-- Devices and disks that no origin's line names
 
 pub record IsUnserved (stack : Description) (lower : Lower) : Type 0 where
   pub none : (device : ℕ) (origin : ResolvedOrigin) → origin_at stack device ≡ Some origin → lower ≡ origin.to → ⊥
 
--- a snapshot that would still read it is none whose chunk is settled
+-- a valid snapshot hasn't settled a chunk that it would still read from the origin
 not_settled : (taken : Taken) (chunk : ℕ) → taken.valid ≡ true → number_in chunk taken.chunks ≡ None → is_settled taken chunk ≡ true → ⊥
 not_settled taken chunk valid none settled = true≢false (sym settled ∙ (rw (valid, none) refl))
 
--- to one of it, where all its snapshots are settled: that device's sector
+-- only the origin's device leads to a sector of what it names, if all snapshots have settled the sector's chunk
 pub only_by_origin : (stack : Description) (state : State) (d e t at : ℕ) (origin : ResolvedOrigin) → IsSound stack → IsTidy stack → origin_at stack d ≡ Some origin → at < lower_len stack origin.to
     → AreSettled state origin.over at → ReadStep stack state e t origin.to at → IsAt e t d at
 only_by_origin stack state d e t at origin sound tidy served below settled (ByLine line is step) =
@@ -212,7 +212,7 @@ only_by_origin stack state d e t at origin sound tidy served below settled (BySe
     let one = one_via stack e d a.index b.index 0 0 a.it b.it origin.to at Serving Serving tidy via (b.via at below) refl in
     record { device = one.devices; sector = sym at_is }
 
--- Top devices: nothing leads to them
+-- No step leads to a top device
 
 line_named : (stack : Description) (device sector : ℕ) (line : ResolvedLine) (lower : Lower) (at : ℕ) (via : IsLineVia stack device sector line lower at) → IsNamed stack device via.index (span_index line.target (sector - line.start)) via.it lower
 line_named stack device sector line lower at via = record { there = via.via.there; line_at = via.via.line_at; span = via.via.span; span_at = via.via.span_at; on = via.via.on }

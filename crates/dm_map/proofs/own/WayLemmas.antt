@@ -1,4 +1,4 @@
--- Ways of reads: they go on, come from somewhere, go to what is less deep, and end where the read does.
+-- Ways of reads: each can be continued, has a last step or none, leads to devices of less depth, and ends at the sector that is read.
 use Rattle.dm_map.proofs.Prelude.{ℕ, List, [], refl, sym, ap, ◌∙◌, arith, Lower, Device, Disk, Below, Lies, Description, lower_depth, IsSound, by_below, read_below, read, State, ReadOf, Zeros, Fails, Node, node, Leads, IsWay, Touches}
 use Rattle.dm_map.proofs.walk.OneLevel.{by_depth, next_depth, read_disk, read_down}
 use Rattle.std.specs.Prelude.{◌≡◌, ◌<◌, ◌≤◌, ◌∷◌, ◌++◌}
@@ -9,7 +9,7 @@ touch_self stack state a = record { between = []; way = refl }
 pub touch_more : (stack : Description) (state : State) (a b c : Node) → Touches stack state a b → Leads stack state b c → Touches stack state a c
 touch_more stack state a b c touches leads = record { between = b ∷ touches.between; way = (leads, touches.way) }
 
--- a way has no step, or a last one
+-- a way has no step, or it has a last one
 pub data Back (stack : Description) (state : State) (a b : Node) : Type 0 where
   Here : a ≡ b → Back stack state a b
   Before : (c : Node) → Touches stack state a c → Leads stack state c b → Back stack state a b
@@ -28,7 +28,7 @@ first_way stack state a b c (x ∷ xs) leads way = (way.0, first_way stack state
 pub touch_first : (stack : Description) (state : State) (a b c : Node) → Leads stack state a b → Touches stack state b c → Touches stack state a c
 touch_first stack state a b c leads touches = record { between = touches.between ++ a ∷ []; way = first_way stack state a b c touches.between leads touches.way }
 
--- A step goes to what is less deep
+-- Each step of a way leads to a device of less depth, or to a disk
 
 leads_depth : (stack : Description) (state : State) (a b : Node) → IsSound stack → Leads stack state a b → lower_depth stack b.lower < lower_depth stack a.lower
 leads_depth stack state a b sound leads = rw leads.on (next_depth stack state leads.device a.sector b.lower b.sector sound leads.below)
@@ -37,14 +37,14 @@ way_depth : (stack : Description) (state : State) (a b : Node) (between : List N
 way_depth stack state a b [] sound way = rw (← way) (omega arith)
 way_depth stack state a b (c ∷ cs) sound way = let less = leads_depth stack state c b sound way.0 in let more = way_depth stack state a c cs sound way.1 in omega (arith, less, more)
 
--- a way that ends on the device where it begins has no step
+-- a way between two sectors of one device has no step
 pub touch_same : (stack : Description) (state : State) (a b : Node) → IsSound stack → Touches stack state a b → a.lower ≡ b.lower → a ≡ b
 touch_same stack state a b sound touches same = elim (back stack state a b touches) [
   | Here e ↦ e
   | Before c before leads ↦ absurd (omega (arith, leads_depth stack state c b sound leads, way_depth stack state a c before.between sound before.way, ap (lower_depth stack) same))
 ]
 
--- A read's way ends at its unit's sector
+-- The way of a read ends at the sector of its unit
 
 disk_is : (disk sector k x : ℕ) → ReadOf disk sector ≡ ReadOf k x → node (Disk disk) sector ≡ node (Disk k) x
 disk_is disk sector k x e = cc

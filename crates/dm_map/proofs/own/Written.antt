@@ -1,4 +1,4 @@
--- The write of a sector: chunks are taken, then one unit follows; what is read then, and by whom.
+-- The write of a sector: it takes chunks and then has one more unit; what is read afterwards, and by which devices.
 use Rattle.dm_map.proofs.Prelude.{inl, inr, ℕ, Bool, true, false, cond, List, [], Option, Some, None, length, refl, sym, ap, ◌∙◌, arith, AllByRecursion, append-nil, same_Some, ResolvedLine, ResolvedOrigin, ResolvedSnapshot, ResolvedTarget, Lower, Device, Disk, Below, Lies, IsZero, IsError, below, below_plain, found_at, has_state, IsTidy, Description, is_ro_at, lower_len, lower_depth, IsSound, answers, IsOfSnapshot, take_chunks, Due, due_over, IsFitting, write_line, write_step, write_target, by_below, read_below, IsOver, serve, served_step, store_sector, number_in, read_over, home_in_store, is_refused, read, take_chunk, unit_in_store, write_numbered, State, Taken, taken_at, Step, keep, and_then, origin_at, snapshot_at, BlockUnit, ReadOf, WriteOf, Drops, Fails, Node, node, Touches, all_append}
 use Rattle.dm_stack.specs.declared.lines.resolved_line.ResolvedTarget.TheVariants as founds
 use Rattle.dm_stack.specs.declared.checks.graph.TheConstants.{MOST_DEPTH}
@@ -27,15 +27,15 @@ pub record Written (stack : Description) (state : State) (lower : Lower) (sector
   pub is : step ≡ and_then (take_chunks stack dues state) (λ after. keep (last ∷ []) after)
   pub each : AllByRecursion (IsOfSnapshot stack) dues
   pub answered : answers last ≡ true
-  -- a written sector is read where it was written
+  -- the written sector is then read from the disk sector that was written
   pub reads : (disk x : ℕ) → last ≡ WriteOf disk x → read stack step.state lower sector ≡ ReadOf disk x
-  -- and from a root that is not served only by way of that sector
+  -- a root that isn't served reads that disk sector only by way of the written sector
   pub alone : (disk x : ℕ) (a : Node) → last ≡ WriteOf disk x → IsRoot stack a.lower → IsUnserved stack a.lower → Touches stack step.state a (node (Disk disk) x) → Touches stack step.state a (node lower sector)
 
 Writes : Description → Lower → Type 0
 Writes stack lower = (sector : ℕ) (state : State) → IsFitting stack state → Written stack state lower sector (write_step stack MOST_DEPTH lower state sector)
 
--- One unit that writes nothing
+-- The last unit of a write may write nothing
 
 no_write : (unit : BlockUnit) (disk x : ℕ) → (unit ≡ Fails) ⊎ (unit ≡ Drops) → unit ≡ WriteOf disk x → ⊥
 no_write unit disk x (inl e) f = cc
@@ -59,7 +59,7 @@ written_none stack state lower sector step unit which is = record {
   alone = λ disk x a e root unserved touches. absurd (no_write unit disk x which e);
 }
 
--- A write that goes on below, by a line
+-- Writes to a line without state, which continue below it
 
 read_next : (stack : Description) (state : State) (device sector : ℕ) (to : Lower) (at : ℕ) → IsSound stack → read_below stack state device sector ≡ Lies to at → read stack state (Device device) sector ≡ read stack state to at
 read_next stack state device sector to at sound e = cc (read_down stack state device sector sound)
@@ -85,7 +85,7 @@ line_written stack state device sector to at step sound fitting tidy has goes lo
           touch_up stack step.state a device sector to at sound fits_after tidy root.lines (line_step stack device sector to at has (goes (λ snapshot sector. IsError))) (w.alone disk x a e root unserved touches);
     }
 
--- A snapshot's own write
+-- The write to a snapshot itself
 
 record IsStoredUnit (stack : Description) (snapshot : ResolvedSnapshot) (taken : Taken) (sector disk x : ℕ) : Type 0 where
   valid : taken.valid ≡ true
@@ -113,7 +113,7 @@ kept_next : (stack : Description) (state : State) (device sector number : ℕ) (
 kept_next stack state device sector number line snapshot sound over is valid n =
     snapshot_next stack state device sector snapshot line (taken_at state device) sound over is refl ∙ (rw (valid, n) refl)
 
--- only that sector leads to its taken chunk's home
+-- only the snapshot's sector leads to the home of its taken chunk's sector
 kept_alone : (stack : Description) (state : State) (device sector number : ℕ) (snapshot : ResolvedSnapshot) (a : Node) → IsSound stack → IsFitting stack state → IsTidy stack → snapshot_at stack device ≡ Some snapshot → number_in (sector / snapshot.chunk) (taken_at state device).chunks ≡ Some number → IsRoot stack a.lower
     → Touches stack state a (home_node (home_in_store stack snapshot number sector)) → Touches stack state a (node (Device device) sector)
 kept_alone stack state device sector number snapshot a sound fitting tidy over n root touches =
@@ -157,13 +157,13 @@ snapshot_written stack state device sector line snapshot step sound fitting tidy
           rw state_is (kept_alone stack first.state device sector unit.number snapshot a sound fits_after tidy over unit.is root (rw (node_of_unit home.disk home.sector disk x unit.home, ← state_is) touches));
     }
 
--- or a chunk that is refused: its write fails
+-- a write to a chunk that is refused fails
 chunk_by : (refused : Bool) (stack : Description) (state : State) (device sector : ℕ) (line : ResolvedLine) (snapshot : ResolvedSnapshot) (step : Step) → IsSound stack → IsFitting stack state → IsTidy stack → snapshot_at stack device ≡ Some snapshot → found_at stack device sector ≡ Some line
     → step ≡ cond refused (keep (Fails ∷ []) state) (and_then (take_chunk stack snapshot device (sector / snapshot.chunk) state) (λ after. keep (unit_in_store stack snapshot device after sector ∷ []) after)) → Written stack state (Device device) sector step
 chunk_by true stack state device sector line snapshot step sound fitting tidy over is step_is = written_none stack state (Device device) sector step Fails (inl refl) step_is
 chunk_by false stack state device sector line snapshot step sound fitting tidy over is step_is = snapshot_written stack state device sector line snapshot step sound fitting tidy over is step_is
 
--- A write of an origin's device: its snapshots are served, and then the origin is written
+-- Writes to an origin's device: its snapshots are served, and then the origin is written
 
 origin_written : (stack : Description) (state : State) (device sector : ℕ) (line : ResolvedLine) (origin : ResolvedOrigin) (step : Step) → IsSound stack → IsFitting stack state → IsTidy stack → origin_at stack device ≡ Some origin → found_at stack device sector ≡ Some line
     → ((after : State) → read_below stack after device sector ≡ Lies origin.to sector) → Writes stack origin.to → step ≡ served_step stack origin.over (λ after at. write_step stack MOST_DEPTH origin.to after at) state sector → Written stack state (Device device) sector step
@@ -200,7 +200,7 @@ origin_written stack state device sector line origin step sound fitting tidy ser
           ]);
     }
 
--- Each write
+-- The write of any sector
 
 held_is : (stack : Description) (device sector : ℕ) (line held : ResolvedLine) → found_at stack device sector ≡ Some line → has_state line.target ≡ false → found_at stack device sector ≡ Some held → has_state held.target ≡ false
 held_is stack device sector line held is plain held_at = rw (← same_Some line held (sym is ∙ held_at)) plain

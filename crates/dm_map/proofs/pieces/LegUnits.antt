@@ -1,15 +1,15 @@
--- Rows of legs on disks: their units leg by leg, and a sink that takes them.
+-- Legs of a striped line on disks: their units leg by leg, and a sink that receives them one by one.
 use Rattle.dm_map.proofs.Prelude.{ℕ, zero, suc, List, [], append_assoc, refl, sym, ap, ◌∙◌, arith, Result, Ok, Err, IsErr, Op, Disk, ResolvedTarget, Leg, Description, Lies, below_plain, after_leg, AreOnDisks, LegsView, legs_after, IsDiskLeg, AreHanded, IsHanded, IsLawful, SinkPast, BlockUnit, below_unit, disk_unit, legs_units, line_units, next_unit, units_in}
 use Rattle.dm_table.specs.declared.requests.request.Op.TheVariants as ops
 use Rattle.std.specs.Prelude.{◌≡◌, ◌+◌, ◌-◌, ◌<◌, ◌≤◌, ◌∷◌, ◌++◌}
 
--- Units
+-- Units of legs on disks
 
 next_disk_unit : (op : Op) (disk sector : ℕ) → next_unit (disk_unit op disk sector) ≡ disk_unit op disk (suc sector)
 next_disk_unit ops.Read disk sector = refl
 next_disk_unit ops.Write disk sector = refl
 
--- sectors that lie in a row on a disk
+-- the units of sectors that lie in a row on a disk
 units_of_row : (op : Op) (target : ResolvedTarget) (distance disk sector n : ℕ) → ((i : ℕ) → i < n → below_plain target (distance + i) ≡ Lies (Disk disk) (sector + i)) → line_units op target distance n ≡ units_in (disk_unit op disk sector) n
 units_of_row op target distance disk sector zero each = refl
 units_of_row op target distance disk sector (suc n) each =
@@ -24,16 +24,16 @@ line_units-append op target distance (suc m) n =
     let e : suc m + n ≡ suc (m + n) = omega arith in let f : distance + suc m ≡ suc distance + m = omega arith in
     rw (e, f) (ap (λ (us : List BlockUnit). below_unit op (below_plain target distance) ∷ us) (line_units-append op target (suc distance) m n))
 
--- those of a leg, and then those of the legs after it
+-- the units of the legs left are those of the next leg, and then those after it
 legs_cut : {stack : Description} {legs : LegsView} {leg : Leg} {disk sector : ℕ} (op : Op) → IsDiskLeg stack legs leg disk sector → leg.len ≤ legs.left → legs_units op legs ≡ units_in (disk_unit op disk sector) leg.len ++ legs_units op (after_leg legs leg.len)
 legs_cut {stack} {legs} {leg} {disk} {sector} op on few =
     let e : legs.left ≡ leg.len + (legs.left - leg.len) = omega (arith, few) in
     ap (line_units op legs.target legs.distance) e ∙ line_units-append op legs.target legs.distance leg.len (legs.left - leg.len)
     ∙ ap (λ (us : List BlockUnit). us ++ legs_units op (after_leg legs leg.len)) (units_of_row op legs.target legs.distance disk sector leg.len on.on.below)
 
--- A sink that takes them leg by leg
+-- A sink that receives legs one by one
 
--- it took the first ones, and these are left
+-- the sink received the units of the first legs, and these legs are left
 pub record HasTakenTo {S : Type 0} (past : SinkPast S) (old new : S) (op : Op) (all rest : LegsView) : Type 0 where
   pub done : List BlockUnit
   pub took : past.took old done new
@@ -46,7 +46,7 @@ pub record HasTakenTo {S : Type 0} (past : SinkPast S) (old new : S) (op : Op) (
 pub took_no_leg : {S : Type 0} {past : SinkPast S} {sink : S} {op : Op} {legs : LegsView} → IsLawful past → AreOnDisks (past.view sink).stack legs → HasTakenTo past sink sink op legs legs
 took_no_leg {sink} lawful on = record { done = []; took = lawful.nothing sink; whole = refl; faults = refl; stack = refl; room = omega arith; on = on }
 
--- the next one too
+-- the sink receives the next leg, too
 pub took_leg : {S F : Type 0} {past : SinkPast S} {fine : Unit {0}} {old middle new : S} {op : Op} {all legs : LegsView} {leg : Leg} {stack : Description} {disk sector : ℕ} {units : List BlockUnit} → IsLawful past → HasTakenTo past old middle op all legs
     → IsDiskLeg stack legs leg disk sector → leg.len ≤ legs.left → units ≡ units_in (disk_unit op disk sector) leg.len → IsHanded {F = F} past (Ok fine) middle new units 0 → HasTakenTo past old new op all (after_leg legs leg.len)
 took_leg {old} {middle} {new} {op} {legs} {leg} {units} lawful so_far on few same handed = record {
@@ -60,7 +60,7 @@ took_leg {old} {middle} {new} {op} {legs} {leg} {units} lawful so_far on few sam
   on = legs_after _ legs leg.len few so_far.on;
 }
 
--- it failed at the next one
+-- the sink fails at the next leg
 pub failed_at_leg : {S R F : Type 0} {past : SinkPast S} {result : Result R F} {fault : F} {old middle new : S} {op : Op} {all legs : LegsView} {leg : Leg} {stack : Description} {disk sector : ℕ} {units : List BlockUnit} → IsErr result → IsLawful past → HasTakenTo past old middle op all legs
     → IsDiskLeg stack legs leg disk sector → leg.len ≤ legs.left → units ≡ units_in (disk_unit op disk sector) leg.len → IsHanded {R = Unit {0}} past (Err fault) middle new units 0 → AreHanded past result old new (legs_units op all)
 failed_at_leg {result = Ok done} is_err lawful so_far on few same handed = absurd cc

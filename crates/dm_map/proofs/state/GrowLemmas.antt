@@ -1,11 +1,11 @@
--- What runs become when one more chunk is taken: one is longer, or there is a new one.
+-- The runs after one more chunk is taken: one run is longer, or there is a new one.
 use Rattle.dm_map.proofs.Prelude.{ℕ, suc, Bool, true, false, List, [], Option, Some, None, length, get_or, set, nat_eq, refl, ◌∙◌, inl, inr, arith, get_or-set_same, get_or-set_other, IsDistinct, insert, cases_eq, cases_lt, cases_order, eq-eqb, ne_eqb, get_or_append_left, get_or_push, length-set, length_push, get_or-insert_above, get_or-insert_at, get_or-insert_below, length-insert, Run, AreBegunBy, AreRuns, GoesOn, IsRun, begins, no_run, run_at, run_count, runs_after, number_in}
 use Rattle.dm_map.specs.state.Runs.{end_of}
 use Rattle.dm_map.proofs.state.Numbers.{number_distinct, number_other}
 use Rattle.dm_map.proofs.state.RunLemmas.{begins_after, ended_before, ends_before, number_in_run}
 use Rattle.std.specs.Prelude.{◌≡◌, ◌+◌, ◌-◌, ◌<◌, ◌≤◌, ◌∷◌, ◌++◌, if◌then◌else◌}
 
--- Whether a chunk begins a run
+-- Whether a chunk starts a run
 
 last_after : (before : Option ℕ) → List ℕ → Option ℕ
 last_after before [] = before
@@ -21,7 +21,7 @@ unfolding last_after
 runs_push before [] chunk = omega arith
 runs_push before (x ∷ chunks) chunk = let rest = runs_push (Some x) chunks chunk in omega (arith, rest)
 
--- where no run goes on with a chunk, it begins one
+-- a chunk that continues no run starts a new one
 begins_new : (runs : List Run) (chunks : List ℕ) (chunk : ℕ) → AreRuns runs chunks → IsDistinct nat_eq chunks → ((i : ℕ) → i < length runs → GoesOn (run_at runs i) chunk (length chunks) → ⊥) → begins (last_after None chunks) chunk ≡ true
 unfolding last_after
 begins_new runs [] chunk kept distinct none = refl
@@ -48,7 +48,7 @@ goes_on_there (first ∷ rest) run chunk each on =
     let last = rw number at (each.its_own (run.len - 1) (omega (arith, each.some))) in
     rw (last_at None first rest, last, eq-eqb (run.first + (run.len - 1) + 1) chunk (omega (arith, each.some, on.0))) refl
 
--- a run that stays
+-- a run stays one when another chunk is taken
 run_still : (chunks : List ℕ) (chunk : ℕ) (run : Run) → IsRun chunks run → IsRun (chunks ++ chunk ∷ []) run
 run_still chunks chunk run each =
     record {
@@ -57,9 +57,9 @@ run_still chunks chunk run each =
       its_own = λ offset inside. get_or_append_left chunks (chunk ∷ []) 0 (run.number + offset) (omega (arith, each.within, inside)) ∙ each.its_own offset inside;
     }
 
--- A new run
+-- Inserting a new run
 
--- a run after the new one was there, an index before
+-- a run after the inserted one has an index higher by one
 moved : (runs : List Run) (at i : ℕ) (run : Run) → at ≤ length runs → at < i → run_at (insert runs at run) i ≡ run_at runs (i - 1)
 moved runs at i run room above =
     let k : i - 1 + 1 ≡ i = omega (arith, above) in
@@ -130,7 +130,7 @@ takes_new runs chunks chunk begun kept distinct by fresh apart counted =
       rw (runs_push None chunks chunk, begins_new runs chunks chunk kept distinct none) (omega (arith, counted)),
     )
 
--- A longer run
+-- Lengthening a run
 
 rising_longer : (runs : List Run) (chunks : List ℕ) (chunk begun : ℕ) (new : Run) → AreRuns runs chunks → AreBegunBy runs chunk begun → 0 < begun → new.first ≡ (run_at runs (begun - 1)).first → end_of new ≡ chunk + 1
     → (i j : ℕ) → i < j → j < length runs → end_of (run_at (set runs (begun - 1) new) i) ≤ (run_at (set runs (begun - 1) new) j).first
@@ -183,7 +183,7 @@ takes_next runs chunks chunk begun new kept by some on counted first from long =
       rw (runs_push None chunks chunk, goes_on_there chunks run chunk each on) (omega (arith, counted)),
     )
 
--- There are no more runs than chunks
+-- There are at most as many runs as chunks
 
 few_more : (b : Bool) (m n : ℕ) → m ≤ n → (if b then 1 else 0) + m ≤ suc n
 few_more true m n few = omega (arith, few)

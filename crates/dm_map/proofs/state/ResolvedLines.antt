@@ -1,11 +1,11 @@
--- What a sound stack says of the line that was found for a sector.
+-- What a sound stack says about the line that is found for a sector.
 use Rattle.dm_map.proofs.Prelude.{ℕ, inl, inr, Bool, true, false, cond, List, [], Option, Some, None, length, refl, sym, ap, ◌∙◌, arith, option_and_then, option_map, nat_le, nat_lt, and_parts, cases_lt, ltb-true, slice_get_past, Line, ResolvedLine, ResolvedOrigin, ResolvedSnapshot, ResolvedTarget, found_at, resolved_line, holds, line_of, IsOriginSound, IsSnapshotSound, Description, device_len, IsSound, same_found, HoldsSoundly, device_sound, lines_there, sector_found, there, origin_at, origin_of, snapshot_at, snapshot_of}
 use Rattle.dm_stack.specs.Prelude.{end_of}
 use Rattle.dm_stack.specs.declared.lines.resolved_line.ResolvedTarget.TheVariants as founds
 use Rattle.dm_stack.proofs.LayoutLemmas.{AreInRow}
 use Rattle.std.specs.Prelude.{◌≡◌, ◌+◌, ◌<◌, ◌≤◌, ◌∷◌}
 
--- A sector that has a line is before its device's end
+-- A sector that a line holds is before its device's end
 
 end_after : (end : ℕ) (line : Line) (lines : List Line) → AreInRow end (line ∷ lines) → end + line.len ≤ end_of (line ∷ lines)
 end_after end line [] row = let from = row.0 in omega (arith, from)
@@ -28,13 +28,13 @@ pub some_line : (stack : Description) (line : Option Line) (found : ResolvedLine
 some_line stack None found is = absurd cc
 some_line stack (Some it) found is = (it, refl, cc)
 
--- what is said of the line of a sector
+-- what is known about the line that holds a sector of a sound stack
 pub record IsLineOf (stack : Description) (device sector : ℕ) (line : ResolvedLine) : Type 0 where
   pub there : device < length stack.devices
   pub inside : sector < device_len stack device
   pub soundly : HoldsSoundly stack device line sector
 
--- a device that has a line is one of the stack
+-- a device with a line is one of the stack's
 pub line_there : (stack : Description) (device sector : ℕ) (line : ResolvedLine) → found_at stack device sector ≡ Some line → device < length stack.devices
 line_there stack device sector line is =
     elim (cases_lt device (length stack.devices)) [
@@ -57,19 +57,19 @@ line_sound stack device sector line sound is =
     let same : f.line ≡ line = cc in
     record { there = within; inside = inside; soundly = rw same at f.soundly }
 
--- a line that begins at 0 is its device's first
+-- a line that starts at sector 0 is the first of its device
 first_found : (stack : Description) (device sector : ℕ) (line : ResolvedLine) → IsSound stack → found_at stack device sector ≡ Some line → line.start ≡ 0 → found_at stack device 0 ≡ Some line
 first_found stack device sector line sound is from =
     let of = line_sound stack device sector line sound is in let before = of.soundly.before in
     same_found stack device sector 0 line sound of.there is (omega (arith, from)) (omega (arith, from, before))
 
--- A snapshot is all of its device
+-- A snapshot covers all of its device
 
 pub record IsSnapshotOf (stack : Description) (device : ℕ) (snapshot : ResolvedSnapshot) : Type 0 where
   pub there : device < length stack.devices
   pub some : 0 < device_len stack device
   pub soundly : IsSnapshotSound stack device 0 (device_len stack device) snapshot
-  -- each of its sectors has that line
+  -- each sector of the device is on the snapshot's line
   pub each : (sector : ℕ) (line : ResolvedLine) → found_at stack device sector ≡ Some line → (line.start ≡ 0) × (line.target ≡ founds.Snapshot snapshot)
 
 pub line_snapshot : (stack : Description) (device sector : ℕ) (line : ResolvedLine) (snapshot : ResolvedSnapshot) → IsSound stack → found_at stack device sector ≡ Some line → line.target ≡ founds.Snapshot snapshot
@@ -102,7 +102,7 @@ snapshot_sound stack device snapshot sound at =
           (cc, cc);
     }
 
--- An origin's line is all of its device
+-- An origin's line covers all of its device
 
 pub record IsOriginOf (stack : Description) (device : ℕ) (origin : ResolvedOrigin) : Type 0 where
   pub there : device < length stack.devices

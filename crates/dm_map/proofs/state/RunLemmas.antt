@@ -1,10 +1,10 @@
--- The number of a chunk, by the runs before and after it.
+-- The number of a chunk, from the runs that start before and after it.
 use Rattle.dm_map.proofs.Prelude.{ℕ, List, Some, None, length, get_or, nat_eq, ◌∙◌, inl, inr, arith, IsDistinct, cases_lt, Run, AreBegunBy, AreRuns, IsRun, run_at, number_in}
 use Rattle.dm_map.specs.state.Runs.{end_of}
 use Rattle.dm_map.proofs.state.Numbers.{number_distinct}
 use Rattle.std.specs.Prelude.{◌≡◌, ◌+◌, ◌-◌, ◌<◌, ◌≤◌}
 
--- a chunk of a run has the number that the run says
+-- a chunk in a run has the number that follows from the run
 pub number_in_run : (chunks : List ℕ) (run : Run) (chunk : ℕ) → IsRun chunks run → IsDistinct nat_eq chunks → run.first ≤ chunk → chunk < end_of run → number_in chunk chunks ≡ Some (run.number + (chunk - run.first))
 number_in_run chunks run chunk each distinct from before =
     let offset = chunk - run.first in
@@ -34,7 +34,7 @@ number_missed runs chunks chunk begun kept by ended =
       | inr above ↦ let later = begins_after runs chunks chunk begun i kept by above within in absurd (omega (arith, later, from))
     ])
 
--- and the other way round
+-- a chunk without a number lies past the end of the last run that starts before it
 pub ended_before : (runs : List Run) (chunks : List ℕ) (chunk begun : ℕ) → AreRuns runs chunks → IsDistinct nat_eq chunks → AreBegunBy runs chunk begun → number_in chunk chunks ≡ None → 0 < begun → end_of (run_at runs (begun - 1)) ≤ chunk
 ended_before runs chunks chunk begun kept distinct by fresh some =
     elim (cases_lt chunk (end_of (run_at runs (begun - 1)))) [

@@ -1,4 +1,4 @@
--- The state of tables, and the places that are left in them.
+-- The state that a mapper's tables hold, and the places left in them.
 use Rattle.dm_map.proofs.Prelude.{ℕ, zero, suc, Bool, true, false, cond, not, List, [], Option, Some, None, length, get_or, set, drop, drop-cons, replicate, nat_eq, nat_lt, refl, sym, ap, subst, ◌∙◌, arith, option_and_then, find, is_none, option_map, slice_get, IfSome, All, AllByRecursion, list_any, position_or_len, range_with_len, eq-eqb, eqb-true, false_from_ne_true, leb-true, le-leb, ne_eqb, lt-ltb, le-ltb, ltb-true, ltb_from_iff, or_parts, nat_tests, All-filter, All-from_get_or, All-get_or, find_at, list_any_at, get_or-range_with_len, length-range_with_len, get_or-replicate, length-set, map-append, map-set, set-get_or, get_or_from_slice_get, slice_get-map, slice_get_read, slice_get_within, DevRef, Line, Target, Reading, ResolvedLine, ResolvedSnapshot, ResolvedTarget, target_spans, whole_span, found_at, resolved_line, resolved_target, holds, line_of, Description, device_id, disk_id, is_same, lines_at, lower_len, lower_of, has_snapshot, is_snapshot, snapshots, place, resolved_snapshot, IsSound, all_lines, is_unknown, is_unknown_ref, faults_by_none, passes_all, device_some, disk_some, found, of_device, there, number_in, lost, put, with_chunk, none_taken, taken_at, AreTables, has_room, snapshot_at, snapshot_of, state_of}
 use Rattle.std.proofs.lemmas.Map.Views.{any-filter_same}
 use Rattle.dm_table.specs.declared.load.load_fault.LoadKind.TheVariants.{Unknown}
@@ -9,7 +9,7 @@ use Rattle.dm_map.proofs.state.Numbers.{number_is}
 use Rattle.dm_map.proofs.state.ResolvedLines.{line_there, some_line}
 use Rattle.std.specs.Prelude.{◌≡◌, ◌↔◌, ◌+◌, ◌*◌, ◌<◌, ◌≤◌, ◌∷◌, ◌++◌, ◌==◌}
 
--- One table
+-- Replacing one table
 
 pub state_set : {T : Type 0} (chunks : T → List ℕ) (valid : T → Bool) (tables : List T) (device : ℕ) (table : T) → state_of chunks valid (set tables device table) ≡ put (state_of chunks valid tables) device (record { chunks = chunks table; valid = valid table })
 state_set chunks valid tables device table = map-set (λ t. record { chunks = chunks t; valid = valid t }) tables device table
@@ -18,7 +18,7 @@ pub state_at : {T : Type 0} (chunks : T → List ℕ) (valid : T → Bool) (tabl
 state_at chunks valid tables device table is =
     get_or_from_slice_get (state_of chunks valid tables) device _ none_taken (slice_get-map (λ t. record { chunks = chunks t; valid = valid t }) tables device ∙ rw is)
 
--- The places of a number among those of a list that fits
+-- The number of a taken chunk has a place
 
 pub number_within : (chunk : ℕ) (chunks : List ℕ) (number : ℕ) → number_in chunk chunks ≡ Some number → number < length chunks
 number_within chunk chunks number is = (number_is chunk chunks number is).0
@@ -39,7 +39,7 @@ took_put chunks valid tables device index chunk table new same got good more on 
     let before : valid table ≡ true = cc in
     rw same (state_set chunks valid tables device new ∙ rw (kept, more, on, before) refl)
 
--- one more chunk, or none
+-- the state after a table is offered a chunk, which it takes or not
 pub offered_put : {T : Type 0} (chunks : T → List ℕ) (valid : T → Bool) (tables : List T) (device index chunk : ℕ) (table new : T) (took : Bool) → index ≡ device → slice_get tables device ≡ Some table → (taken_at (state_of chunks valid tables) device).valid ≡ true
     → chunks new ≡ cond took (chunks table ++ chunk ∷ []) (chunks table) → valid new ≡ true
     → state_of chunks valid (set tables index new) ≡ cond took (put (state_of chunks valid tables) device (with_chunk (taken_at (state_of chunks valid tables) device) chunk)) (state_of chunks valid tables)
@@ -64,12 +64,12 @@ tables_set places stack tables device index table new are same got kept = record
       (rw same (cc (are.room device number table got))) other t at;
 }
 
--- A list of tables that grows
+-- Adding a table at the end of the list
 
 pub state_push : {T : Type 0} (chunks : T → List ℕ) (valid : T → Bool) (tables : List T) (table : T) → chunks table ≡ [] → valid table ≡ true → state_of chunks valid (tables ++ table ∷ []) ≡ state_of chunks valid tables ++ none_taken ∷ []
 state_push chunks valid tables table nothing good = map-append (λ t. record { chunks = chunks t; valid = valid t }) tables (table ∷ []) ∙ rw (nothing, good)
 
--- A table among those of a stack
+-- Getting the table of a device
 
 pub table_got : {T : Type 0} (places : T → ℕ) (stack : Description) (tables : List T) (device index : ℕ) (table : T) → AreTables places stack tables → device < length stack.devices → index ≡ device → table ≡ get_or tables index table → slice_get tables device ≡ Some table
 table_got places stack tables device index table are there same is =
@@ -94,12 +94,12 @@ pub lost_put : {T : Type 0} (chunks : T → List ℕ) (valid : T → Bool) (tabl
 lost_put chunks valid tables device index table new same got kept off =
     rw same (state_set chunks valid tables device new ∙ rw (state_at chunks valid tables device table got, kept, off) refl)
 
--- nothing is taken in a new table
+-- replacing an empty table by another empty one leaves the state at the start
 pub state_new : {T : Type 0} (chunks : T → List ℕ) (valid : T → Bool) (tables : List T) (device count : ℕ) (new : T) → device < count → state_of chunks valid tables ≡ replicate count none_taken → chunks new ≡ [] → valid new ≡ true → state_of chunks valid (set tables device new) ≡ replicate count none_taken
 state_new chunks valid tables device count new there before nothing good =
     state_set chunks valid tables device new ∙ rw (before, nothing, good) (cc (get_or-replicate count device none_taken none_taken there, set-get_or (replicate count none_taken) device none_taken))
 
--- A device that has no snapshot's line
+-- A device without a snapshot line
 
 plain_target : (stack : Description) (target : Target) → is_snapshot target ≡ false → snapshot_of (resolved_target stack target) ≡ None
 plain_target stack (targets.Snapshot origin store kind chunk_size) e = absurd cc
@@ -118,7 +118,7 @@ plain_room stack device number e = rw (plain_line stack (lines_at stack device) 
 
 -- The snapshots of a stack
 
--- a device that is not among them has no place
+-- a device that isn't among the snapshots has no places
 pub unlisted_room : (stack : Description) (device number : ℕ) → device < length stack.devices → list_any (nat_eq device) (snapshots stack) ≡ false → has_room stack device number ≡ false
 unlisted_room stack device number there none =
     let count = length stack.devices in
@@ -127,7 +127,7 @@ unlisted_room stack device number there none =
     let kept = any-filter_same (nat_eq device) (λ d. has_snapshot (lines_at stack d)) (has_snapshot (lines_at stack device)) (λ d is. ap (λ d. has_snapshot (lines_at stack d)) (sym (eqb-true device d is))) ids in
     plain_room stack device number (false_from_ne_true _ (λ some. let picked = rw (some, here) at kept in absurd cc))
 
--- they are devices of the stack
+-- the snapshots are devices of the stack
 pub snapshot_there : (stack : Description) (next d : ℕ) → next < length (snapshots stack) → get_or (snapshots stack) next d < length stack.devices
 snapshot_there stack next d within =
     let count = length stack.devices in
@@ -135,7 +135,7 @@ snapshot_there stack next d within =
     let all = All-from_get_or (λ id. id < count) ids 0 (λ i inside. let at = get_or-range_with_len 0 count i 0 (omega (arith, inside, length-range_with_len 0 count)) in omega (arith, at, inside, length-range_with_len 0 count)) in
     All-get_or (λ id. id < count) (snapshots stack) next d within (All-filter (λ id. has_snapshot (lines_at stack id)) (λ id. id < count) ids all)
 
--- one that is none of the later ones, and not this one, is none of these
+-- a device that is neither this snapshot nor a later one is not among those from this one on
 pub not_yet : (ids : List ℕ) (next d device : ℕ) → next < length ids → (device ≡ get_or ids next d → ⊥) → list_any (nat_eq device) (drop (next + 1) ids) ≡ false → list_any (nat_eq device) (drop next ids) ≡ false
 not_yet ids next d device within differ later =
     let e : suc next ≡ next + 1 = omega arith in
@@ -143,7 +143,7 @@ not_yet ids next d device within differ later =
     let both : list_any (nat_eq device) (get_or ids next d ∷ drop (next + 1) ids) ≡ false = rw (ne_eqb device (get_or ids next d) differ) later in
     rw rest both
 
--- The tables before the first snapshot is looked up, and after the next one
+-- The tables before the first snapshot is looked up, and after each one
 
 pub first_rooms : {T : Type 0} (places : T → ℕ) (stack : Description) (tables : List T) → length tables ≡ length stack.devices → All (λ table. places table ≡ 0) tables
     → (device number : ℕ) (table : T) → slice_get tables device ≡ Some table → list_any (nat_eq device) (snapshots stack) ≡ false → nat_lt number (places table) ≡ has_room stack device number
@@ -164,7 +164,7 @@ next_rooms places stack tables next d index new within is same room before devic
 
 -- The places of a snapshot
 
--- a place that the store has
+-- a number with room has its place within the store
 pub room_place : (stack : Description) (device number : ℕ) (snapshot : ResolvedSnapshot) → snapshot_at stack device ≡ Some snapshot → has_room stack device number ≡ true → (place snapshot.kind snapshot.chunk number + 1) * snapshot.chunk ≤ lower_len stack snapshot.store
 room_place stack device number snapshot is room =
     leb-true _ _ (rw is at room)
@@ -180,7 +180,7 @@ other_room stack device number line is other = rw (is, none_of line.target other
     none_of (founds.Snapshot snapshot) other = absurd (other snapshot refl)
     none_of _ other = refl
 
--- Its store is there
+-- The store of a snapshot is a device or disk of the stack
 
 place_before : {X : Type 0} (test : X → Bool) (xs : List X) → is_none (find test xs) ≡ false → position_or_len test xs < length xs
 place_before {X = X} test xs some = by_found (find test xs) refl some

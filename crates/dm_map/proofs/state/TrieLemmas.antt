@@ -1,4 +1,4 @@
--- The ways of a trie of taken chunks.
+-- The ways that look-ups of chunks take through a trie.
 use Rattle.dm_map.proofs.Prelude.{ℕ, Bool, zero, suc, true, false, List, [], Some, None, cond, length, get_or, replicate, set, nat_eq, refl, sym, ap, subst, ◌∙◌, inl, inr, arith, w64, bit_at, trailing_zeros, bit_xor, AllByRecursion, IsDistinct, list_any, ∥∥₁_elim, cases_eq, cases_lt, eq-eqb, eqb-true, false_from_ne_true, le-ltb, leb-true, lt-ltb, ne_eqb, or_cases, or_parts, get_or_append_left, get_or_push, get_or_read, get_or-replicate, get_or-set_other, get_or-set_same, length-replicate, length-set, length_push, nat_le, nat_lt, IsDistinct-cons, length-le_from_distinct_below, and_le_r, xor_lt, bit_at-lt, bit_at-trailing_zeros, bit_at-zero, bit_at_xor, same_from_bits, number_in, Empty, Number, Fork, Agree, AreInOwnSlots, Fits, HasMarks, IsFork, IsNumber, IsSide, IsTrie, Marks, chunk_at, end_of, is_fork, next_at, node_at, slot_of, way}
 use Rattle.std.proofs.Props.{props}
 use Rattle.dm_map.proofs.state.Numbers.{number_distinct}
@@ -7,7 +7,7 @@ use Rattle.dm_map.specs.declared.state.trie_taken.TrieTaken.{TrieTaken}
 use Rattle.dm_map.specs.declared.state.trie_taken.slots.Slots.{Slots}
 use Rattle.std.specs.Prelude.{◌≡◌, ◌+◌, ◌-◌, ◌%◌, ◌^◌, ◌<◌, ◌≤◌, ◌∷◌, ◌++◌, ◌⊎◌}
 
--- Steps
+-- Steps of a way
 
 pub way-zero : (nodes : List Node) (chunk start : ℕ) → way nodes chunk start 0 ≡ start
 unfolding way
@@ -28,13 +28,13 @@ stays_for nodes chunk start steps (suc more) not_there =
     let before = stays_for nodes chunk start steps more not_there in
     cc (way-suc nodes chunk start (steps + more), next_stays chunk (way nodes chunk start steps) _ not_there)
 
--- what is no fork is the end
+-- a way ends where there is no fork: further steps don't change it
 pub stays : (nodes : List Node) (chunk start steps all : ℕ) → steps ≤ all → is_fork (node_at nodes (way nodes chunk start steps)) ≡ false → way nodes chunk start all ≡ way nodes chunk start steps
 stays nodes chunk start steps all few not_there =
     let e : all ≡ steps + (all - steps) = omega (arith, few) in
     ap (way nodes chunk start) e ∙ stays_for nodes chunk start steps (all - steps) not_there
 
--- Bits that are tested
+-- The bits that are tested on a way
 
 all_other : (bit : ℕ) (bits : List ℕ) → list_any (nat_eq bit) bits ≡ false → AllByRecursion (λ y. nat_eq bit y ≡ false) bits
 all_other bit [] not_there = tt
@@ -55,14 +55,14 @@ agree_cons first bits chunk other here agree bit there = elim (or_cases (nat_eq 
   | inr later ↦ agree bit later
 ]
 
--- a slot is one of the table
+-- a chunk's slot is one of the table's
 slot_low : (table : Slots) (chunk : ℕ) → slot_of table chunk ≤ table.mask
 slot_low table chunk = by_test (nat_le chunk table.mask) refl where
   by_test : (own : Bool) → nat_le chunk table.mask ≡ own → slot_of table chunk ≤ table.mask
   by_test true own = rw own (leb-true chunk table.mask own)
   by_test false own = rw own (and_le_r _ table.mask)
 
--- a chunk on its way
+-- what is known after some steps of a chunk's way: where it is, and which bits were tested
 pub record OnWay (nodes : List Node) (marks : Marks) (chunk at steps : ℕ) : Type 0 where
   pub within : at < length nodes
   pub distinct : IsDistinct nat_eq (marks.tested at)
@@ -108,7 +108,7 @@ on_way chunks nodes table trie slots chunk (suc steps) =
     let here = on_way chunks nodes table trie slots chunk steps in
     rw (way-suc nodes chunk (slot_of table chunk) steps) (on_next chunks nodes trie.marks chunk at steps (node_at nodes at) refl (trie.fits at here.within) here)
 
--- a fork has a bit that is left to test
+-- at a fork there is a bit of the chunk left to test
 pub record Ahead (nodes : List Node) (steps bit pair : ℕ) : Type 0 where
   pub few : steps < 64
   pub small : bit < 64
@@ -126,25 +126,25 @@ pub no_fork : (node : Node) → ((bit pair : ℕ) → node ≡ Fork bit pair →
 no_fork (Fork bit pair) not_there = absurd (not_there bit pair refl)
 no_fork _ not_there = refl
 
--- a number at an end is that of a taken chunk, and no chunk that was taken has another
+-- if a chunk's way ends at a number, it is the number of a taken chunk, and the only one that the chunk can have
 number_on : (chunks : List ℕ) (nodes : List Node) (table : Slots) (trie : HasMarks chunks nodes table) → table.mask < length nodes → (chunk number : ℕ) → node_at nodes (end_of nodes table chunk) ≡ Number number → IsNumber trie.marks chunks (end_of nodes table chunk) number
 number_on chunks nodes table trie slots chunk number is =
     let at = end_of nodes table chunk in
     let here = on_way chunks nodes table trie slots chunk 64 in
     subst (Fits trie.marks chunks (length nodes) at) is (trie.fits at here.within)
 
--- a chunk that is at no index isn't there
+-- a chunk that is at no index of the list has no number
 number_absent : (chunk : ℕ) (chunks : List ℕ) → ((number : ℕ) → number < length chunks → chunk_at chunks number ≡ chunk → ⊥) → number_in chunk chunks ≡ None
 number_absent chunk [] none = refl
 number_absent chunk (first ∷ chunks) none =
     rw (ne_eqb first chunk (none 0 (omega arith)), number_absent chunk chunks (λ number within is. none (suc number) (omega (arith, within)) is)) refl
 
--- a chunk that isn't there is no other one
+-- a chunk that has no number differs from every taken chunk
 pub fresh_apart : (xs : List ℕ) (i chunk : ℕ) → IsDistinct nat_eq xs → i < length xs → number_in chunk xs ≡ None → get_or xs i 0 ≡ chunk → ⊥
 fresh_apart xs i chunk distinct within none is =
     let found = number_distinct xs i 0 distinct within in absurd cc
 
--- Nothing is taken
+-- A trie without chunks
 
 pub no_trie : (slots : ℕ) (table : Slots) → IsTrie [] (replicate slots Empty) table
 no_trie slots table =
@@ -157,9 +157,9 @@ no_trie slots table =
       ends = λ number within. absurd (omega (arith, within));
     }
 
--- A chunk that is taken
+-- Taking a chunk
 
--- a number in the place of nothing changes no way
+-- replacing a node that isn't a fork by another that isn't changes no chunk's way
 put_way : (nodes after : List Node) (here : ℕ) → is_fork (node_at nodes here) ≡ false → is_fork (node_at after here) ≡ false → ((at : ℕ) → (at ≡ here → ⊥) → node_at after at ≡ node_at nodes at)
     → (chunk start steps : ℕ) → way after chunk start steps ≡ way nodes chunk start steps
 put_way nodes after here before now others chunk start zero = way-zero after chunk start ∙ sym (way-zero nodes chunk start)
@@ -172,14 +172,14 @@ put_way nodes after here before now others chunk start (suc steps) =
     ] in
     cc (way-suc after chunk start steps, way-suc nodes chunk start steps)
 
--- what fits fits on where there is more
+-- what the marks say of a node still holds when the list has one more chunk
 chunk_before : (chunks : List ℕ) (chunk number : ℕ) → number < length chunks → chunk_at (chunks ++ chunk ∷ []) number ≡ chunk_at chunks number
 chunk_before chunks chunk number within = get_or_append_left chunks (chunk ∷ []) 0 number within
 
 chunk_last : (chunks : List ℕ) (chunk : ℕ) → chunk_at (chunks ++ chunk ∷ []) (length chunks) ≡ chunk
 chunk_last chunks chunk = get_or_push chunks chunk 0 (length chunks) refl
 
--- numbers at the indices that are their chunks
+-- numbers at the indexes that equal their chunks
 pub none_own : (slots : ℕ) → AreInOwnSlots [] (replicate slots Empty)
 none_own slots at number within is =
     let nothing : Empty ≡ Number number = sym (get_or-replicate slots at Empty Empty (omega (arith, within, length-replicate slots Empty))) ∙ is in absurd cc
@@ -227,7 +227,7 @@ fits_more marks after chunks new count most at (Fork test pair) tested like more
 new_number : (marks : Marks) (chunks : List ℕ) (at number which : ℕ) → number < length chunks → chunk_at chunks number ≡ which → Agree (marks.tested at) which (marks.like at) → IsNumber marks chunks at number
 new_number marks chunks at number which within is agree = record { within = within; agree = rw is agree }
 
--- where the ways of all chunks end, if those that were there end as they did and the new one at its number
+-- every chunk's way ends at its number, if those of earlier chunks are unchanged and the new chunk's way ends at its number
 ends_on : (chunks : List ℕ) (chunk : ℕ) (at : ℕ → Node) → ((number : ℕ) → number < length chunks → at (chunk_at chunks number) ≡ Number number) → at chunk ≡ Number (length chunks)
     → (number : ℕ) → number < length (chunks ++ chunk ∷ []) → at (chunk_at (chunks ++ chunk ∷ []) number) ≡ Number number
 ends_on chunks chunk at before new number within = elim (cases_lt number (length chunks)) [
@@ -264,7 +264,7 @@ put_trie chunks nodes table chunk trie slots empty =
           (ap (node_at after) (same chunk) ∙ now);
     }
 
--- a fork in the place of a number: a way that ended there goes on to one of its links, and no other way changes
+-- replacing a number by a fork: a way that ended there continues to one of the fork's links, and any other way is unchanged
 part_way : (nodes after : List Node) (here bit chunk start : ℕ) → is_fork (node_at nodes here) ≡ false → node_at after here ≡ Fork bit (length nodes) → ((at : ℕ) → at < length nodes → (at ≡ here → ⊥) → node_at after at ≡ node_at nodes at)
     → is_fork (node_at after (length nodes + bit_at chunk bit)) ≡ false → ((steps : ℕ) → way nodes chunk start steps < length nodes)
     → (steps : ℕ) → (way after chunk start steps ≡ way nodes chunk start steps) ⊎ ((way nodes chunk start steps ≡ here) × (way after chunk start steps ≡ length nodes + bit_at chunk bit))
@@ -289,7 +289,7 @@ part_way nodes after here bit chunk start before now others leaf within (suc ste
       )
     ]
 
--- the nodes with a fork on a bit at an index, whose links are new, and lead to the number of either chunk
+-- after has a new fork on this bit at an index, with two new links at the end, which lead to the numbers of the two chunks
 pub record IsParted (nodes after : List Node) (here bit chunk other new old : ℕ) : Type 0 where
   pub count : length after ≡ length nodes + 2
   pub fork : node_at after here ≡ Fork bit (length nodes)
@@ -297,7 +297,7 @@ pub record IsParted (nodes after : List Node) (here bit chunk other new old : �
   pub theirs : node_at after (length nodes + bit_at other bit) ≡ Number old
   pub others : (at : ℕ) → at < length nodes → (at ≡ here → ⊥) → node_at after at ≡ node_at nodes at
 
--- marks of the new links beside those that there were
+-- the marks after the fork: those from before, and marks for its two new links
 record AreMore (marks after : Marks) (count here bit chunk other : ℕ) : Type 0 where
   tested : (at : ℕ) → at < count → after.tested at ≡ marks.tested at
   like : (at : ℕ) → at < count → after.like at ≡ marks.like at
@@ -322,7 +322,7 @@ more_are marks count here bit chunk other apart =
       theirs = rw (le-ltb (count + bit_at other bit) count (omega arith), ne_eqb (count + bit_at other bit) (count + bit_at chunk bit) (λ e. apart (omega (arith, e)))) refl;
     }
 
--- what comes after the new fork for one value of its bit
+-- the marks behind the new fork, for one value of its bit
 new_side : (marks after : Marks) (count here bit chunk other value which : ℕ) → AreMore marks after count here bit chunk other → here < count → value ≡ bit_at which bit → after.like (count + bit_at which bit) ≡ which → Agree (marks.tested here) which (marks.like here) → IsSide after here bit count value
 new_side marks after count here bit chunk other value which more below is like agree =
     let same : after.like (count + value) ≡ which = cc in
@@ -332,7 +332,7 @@ new_side marks after count here bit chunk other value which more below is like a
       parted = cc;
     }
 
--- two bits that differ are all values
+-- a value below 2 is one of two different bits
 one_of : (value a b : ℕ) → value < 2 → a < 2 → b < 2 → (a ≡ b → ⊥) → (value ≡ a) ⊎ (value ≡ b)
 one_of value a b two left right apart = elim (cases_eq value a) [ inl is ↦ inl is | inr other ↦ inr (omega (arith, two, left, right, apart, other)) ]
 
@@ -416,7 +416,7 @@ part_trie chunks nodes after table bit chunk other number trie slots small apart
           ]);
     }
 
--- the lowest bit in which two numbers differ
+-- The lowest bit in which two numbers differ
 xor_some : (a b : ℕ) → (a ≡ b → ⊥) → 0 < bit_xor a b
 xor_some a b differ = elim (cases_lt 0 (bit_xor a b)) [
   | inl some ↦ some
@@ -447,7 +447,7 @@ last_two nodes node value two = elim (cases_eq value 0) [
   | inr second ↦ get_or_push (nodes ++ node ∷ []) node Empty (length nodes + value) (omega (arith, length_push nodes node, two, second))
 ]
 
--- the nodes that the fork makes
+-- pushing two links and setting them and the fork gives the nodes with a new fork
 pub is_parted : (nodes : List Node) (here bit chunk other mine theirs : ℕ) → here < length nodes → (bit_at chunk bit ≡ bit_at other bit → ⊥)
     → IsParted nodes (set (set ((nodes ++ Number theirs ∷ []) ++ Number theirs ∷ []) (length nodes + bit_at chunk bit) (Number mine)) here (Fork bit (length nodes))) here bit chunk other mine theirs
 is_parted nodes here bit chunk other mine theirs within apart =
@@ -472,9 +472,9 @@ is_parted nodes here bit chunk other mine theirs within apart =
           ∙ get_or_append_left nodes (Number theirs ∷ []) Empty at below;
     }
 
--- A table of taken chunks
+-- The table of taken chunks, as `TrieTaken` keeps it
 
--- the node where the way of a chunk ends
+-- the node at which a chunk's way ends
 abbrev pub last_node : TrieTaken → (chunk : ℕ) → Node
 last_node taken chunk = node_at taken.links.items (end_of taken.links.items taken.slots chunk)
 
@@ -491,20 +491,20 @@ end_stops taken chunk bit pair is = let more = bit_ahead taken chunk 64 bit pair
 pub number_within : (taken : TrieTaken) (chunk number : ℕ) → last_node taken chunk ≡ Number number → number < length taken.chunks.items
 number_within taken chunk number is = ∥∥₁_elim taken.leads (hlevel props) (λ trie. (number_on taken.chunks.items taken.links.items taken.slots trie.marked taken.table chunk number is).within)
 
--- a number at an index that is a chunk is that chunk's
+-- with own slots, the number at an index is that of the chunk equal to the index
 pub own_number : (taken : TrieTaken) (chunk number : ℕ) → taken.own_slots ≡ true → chunk < length taken.links.items → node_at taken.links.items chunk ≡ Number number → chunk_at taken.chunks.items number ≡ chunk
 own_number taken chunk number on within is = ∥∥₁_elim taken.own (hlevel props) (λ own. (own on chunk number within is).1)
 
--- a chunk that isn't where its way ends was not taken
+-- a chunk whose way doesn't end at its number isn't taken
 pub not_taken : (taken : TrieTaken) (chunk : ℕ) → ((number : ℕ) → chunk_at taken.chunks.items number ≡ chunk → last_node taken chunk ≡ Number number → ⊥) → number_in chunk taken.chunks.items ≡ None
 not_taken taken chunk none =
     number_absent chunk taken.chunks.items (λ number within is. ∥∥₁_elim taken.leads (hlevel props) (λ trie. none number is (ap (last_node taken) (sym is) ∙ trie.ends number within)))
 
--- one whose way ends at nothing was not taken
+-- a chunk whose way ends at an empty node isn't taken
 pub not_empty : (taken : TrieTaken) (chunk : ℕ) → last_node taken chunk ≡ Empty → number_in chunk taken.chunks.items ≡ None
 not_empty taken chunk last = not_taken taken chunk (λ number is found. let wrong : Empty ≡ Number number = sym last ∙ found in absurd cc)
 
--- and one whose way ends at the number of a chunk, which was read, only if it is that chunk
+-- a chunk whose way ends at the number of an equal chunk has that number
 pub its_number : (taken : TrieTaken) (chunk number seen : ℕ) → last_node taken chunk ≡ Number number → seen ≡ get_or taken.chunks.items number seen → seen ≡ chunk → number_in chunk taken.chunks.items ≡ Some number
 its_number taken chunk number seen last read is =
     let there = number_within taken chunk number last in
@@ -518,7 +518,7 @@ not_other taken chunk number seen last read differ =
     let same : number ≡ other = cc in
     differ (get_or_read taken.chunks.items number seen (number_within taken chunk number last) read 0 ∙ ap (chunk_at taken.chunks.items) same ∙ is))
 
--- the node that was read
+-- the node that was read is the one at its index
 pub node_read : (nodes : List Node) (at : ℕ) (seen node : Node) → at < length nodes → seen ≡ get_or nodes at seen → node ≡ seen → node_at nodes at ≡ node
 node_read nodes at seen node within read is = sym (get_or_read nodes at seen within read Empty) ∙ sym is
 

@@ -1,4 +1,4 @@
--- Mapped sectors: those of a line by what lies below them, and those of a device that lie in one line.
+-- Walks and bounds on their searches, for sectors of a line by what lies below, and for sectors of a device in one line.
 use Rattle.dm_map.proofs.Prelude.{ℕ, suc, false, List, [], Some, length, refl, sym, ap, ◌∙◌, arith, nat_lt, Result, ne_eqb, mul-le-mul_right, Op, Read, ResolvedLine, ResolvedTarget, Lower, Device, Below, Lies, below_target, found_at, is_same_chunk, IsLineOf, Description, device_len, stack_depth, IsSound, depth_of, SinkPast, IsMapped, found_mapping, range_mapping, target_mapping, target_path, PathStep, is_same_path, path, read_stretches, stretches, by_below, read_over, State, taken_at, Step, steps, WalkerView, line_step, refuses}
 use Rattle.dm_stack.specs.Prelude.{chunk_at}
 use Rattle.dm_stack.specs.declared.checks.graph.TheConstants.{MOST_DEPTH}
@@ -8,9 +8,9 @@ use Rattle.dm_map.proofs.walk.Ranges.{range_line}
 use Rattle.dm_map.proofs.walk.Rows.{walked_as}
 use Rattle.std.specs.Prelude.{◌≡◌, ◌+◌, ◌-◌, ◌*◌, ◌<◌, ◌≤◌, ◌∷◌, ◌==◌}
 
--- A line, by what lies below it
+-- Sectors of a line, by what lies below them
 
--- each of these sectors lies on the next one of a device or a disk
+-- below each of these sectors lies the next sector of a device or a disk
 pub mapped_below : {S R F : Type 0} {past : SinkPast S} {result : Result R F} {old new : S} {before after : WalkerView} {step : Description → State → ℕ → Step} {sector n : ℕ}
     (op : Op) (levels device start distance at : ℕ) (line : ResolvedLine) (target : ResolvedTarget) (to : Lower) → found_at before.stack device at ≡ Some line → line.target ≡ target → 1 ≤ n
     → ((i : ℕ) → i < n → below_target (read_over (taken_at before.state device)) target (distance + i) ≡ Lies to (sector + i))
@@ -29,13 +29,13 @@ mapped_below {before} {after} {sector} {n} op levels device start distance at li
           omega (arith, most);
     }
 
--- a line that is said in another way
+-- sectors mapped for one target and start are mapped for an equal target and start
 pub mapped_target : {S F : Type 0} {past : SinkPast S} {result : Result (Unit {0}) F} {old new : S} {before after : WalkerView} {distance n : ℕ} (op : Op) (levels device : ℕ) (start other : ℕ) (target is : ResolvedTarget)
     → start ≡ other → target ≡ is → IsMapped past result old new before after (target_mapping op levels device other is) distance n → IsMapped past result old new before after (target_mapping op levels device start target) distance n
 mapped_target {past} {result} {old} {new} {before} {after} {distance} {n} op levels device start other target is same kind mapped =
     rw (same, kind) mapped
 
--- another chunk of it is another path
+-- the path below a line; two sectors in different chunks of the line have different paths
 abbrev lower_path : Description → State → (levels device : ℕ) → ResolvedTarget → (distance : ℕ) → List PathStep
 lower_path stack state levels device target distance = by_below (below_target (read_over (taken_at state device)) target distance) [] [] (λ to lower. path stack state levels to lower)
 
@@ -44,13 +44,13 @@ pub parts_apart : (stack : Description) (state : State) (levels device start at 
 parts_apart stack state levels device start at target differs =
     other_chunk device start (chunk_at target (at - 1)) (chunk_at target at) (lower_path stack state levels device target (at - 1)) (lower_path stack state levels device target at) differs
 
--- A range of one line
+-- Sectors of a device that are in one line
 
 line_at : (stack : Description) (state : State) (levels fewer device sector : ℕ) (line : ResolvedLine) → levels ≡ suc fewer → found_at stack device sector ≡ Some line → path stack state levels (Device device) sector ≡ target_path stack state fewer device line.start line.target (sector - line.start)
 unfolding path
 line_at stack state levels fewer device sector line more found = rw (more, found) refl
 
--- what it hands over, and its searches, and that which found the line
+-- the walk of sectors in one line: its steps, its searches, and the search that found the line
 pub mapped_line : {S R F : Type 0} {past : SinkPast S} {result : Result R F} {old new : S} {before after : WalkerView} (op : Op) (levels fewer device sector n : ℕ) (line : ResolvedLine)
     → levels ≡ suc fewer → refuses before.stack op device ≡ false → IsLineOf before.stack device line sector → 1 ≤ n → sector + n ≤ line.start + line.len
     → IsMapped past result old new before after (target_mapping op fewer device line.start line.target) (sector - line.start) n → IsMapped past result old new before after (found_mapping op levels device) sector n
@@ -66,7 +66,7 @@ mapped_line {before} {after} op levels fewer device sector n line more passes of
           searches_line paths lower (depth_of stack device) sector (sector - line.start) n before.looked.searches (before.looked.searches + 1) (after.looked.searches + 1) (depth_some stack device) some (omega arith) below (omega (arith, few));
     }
 
--- the line after one is another
+-- the sectors on both sides of the end of a line have different paths
 pub lines_apart : (stack : Description) (state : State) (levels fewer device at n : ℕ) (line next : ResolvedLine) → levels ≡ suc fewer → 1 ≤ n → IsLineOf stack device line at → at + n ≡ line.start + line.len → IsLineOf stack device next (at + n)
     → is_same_path (path stack state levels (Device device) (at + n - 1)) (path stack state levels (Device device) (at + n)) ≡ false
 lines_apart stack state levels fewer device at n line next more some of end after =
@@ -81,7 +81,7 @@ lines_apart stack state levels fewer device at n line next more some of end afte
     (other_start device line.start next.start (chunk_at line.target (at + n - 1 - line.start)) (chunk_at next.target (at + n - next.start))
     (lower_path stack state fewer device line.target (at + n - 1 - line.start)) (lower_path stack state fewer device next.target (at + n - next.start)) differs)
 
--- A request inside its device
+-- A request within its device
 
 pub request_bound : {S R F : Type 0} {past : SinkPast S} {result : Result R F} {old new : S} {before after : WalkerView} (op : Op) (device start len : ℕ)
     → IsSound before.stack → device < length before.stack.devices → nat_lt (device_len before.stack device) (start + len) ≡ false

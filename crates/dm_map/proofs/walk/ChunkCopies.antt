@@ -1,4 +1,4 @@
--- The sectors of a chunk in a store, their copies and their writes.
+-- Copies and writes of a chunk's sectors, to where the store keeps them.
 use Rattle.dm_map.proofs.Prelude.{ℕ, false, refl, sym, ap, subst, ◌∙◌, arith, Read, ResolvedSnapshot, Lower, HomeStretch, Ground, Stretch, AreAdded, GoOn, IsFirstHomes, home, store_sector, any_error, copy_to, home_in_store, is_error, read, reads_all, row, write_to, keep, ground_unit, IsFirstOf, IsGroundInStack, SinkPast, BlockUnit, WriteOf, units_in, StackState, WalkerView, stack_state, range_step}
 use Rattle.dm_stack.specs.declared.checks.graph.TheConstants.{MOST_DEPTH}
 use Rattle.dm_map.specs.declared.walk.stretch.Ground.TheVariants as grounds
@@ -7,7 +7,7 @@ use Rattle.dm_map.proofs.walk.Rows.{none_added}
 use Rattle.dm_map.proofs.walk.UnitRows.{copy_row, errors_on, first_reads, row_front, write_row}
 use Rattle.std.specs.Prelude.{◌≡◌, ◌+◌, ◌-◌, ◌%◌, ◌<◌, ◌≤◌}
 
--- between pieces, a sink and a walk are where they were, but for the units that the sink took and what was looked up
+-- after some pieces: the state is unchanged, and only look-ups were counted and units received
 pub record IsGoingOn {S : Type 0} (past : SinkPast S) (old new : S) (before after : WalkerView) : Type 0 where
   pub same : stack_state after ≡ stack_state before
   pub looked : AreAdded before.looked after.looked
@@ -15,7 +15,7 @@ pub record IsGoingOn {S : Type 0} (past : SinkPast S) (old new : S) (before afte
   pub room : (past.view old).room ≤ (past.view new).room
   pub faults : (past.view new).faults ≡ (past.view old).faults
 
--- a first stretch is one for any walker of the same stack in the same state
+-- a first stretch is one for every walker with the same stack and state
 pub first_seen : (walk before after : WalkerView) (lower : Lower) (sector len : ℕ) (stretch : Stretch) → stack_state before ≡ stack_state walk → IsFirstOf before after MOST_DEPTH lower sector len stretch
     → IsFirstOf walk walk MOST_DEPTH lower sector len stretch
 first_seen walk before after lower sector len stretch same first = record {
@@ -27,13 +27,13 @@ first_seen walk before after lower sector len stretch same first = record {
   looked = none_added walk.looked;
 }
 
--- a range whose first stretch fails doesn't read without an error
+-- a range whose first stretch fails can't be read without an error
 pub fails_on : (walk : WalkerView) (lower : Lower) (sector len : ℕ) (stretch : Stretch) → IsFirstOf walk walk MOST_DEPTH lower sector len stretch → stretch.ground ≡ grounds.Fails → reads_all walk.stack walk.state lower sector len ≡ false
 fails_on walk lower sector len stretch first fails =
     let rest = any_error (row (read walk.stack walk.state lower) (sector + stretch.len) (len - stretch.len)) in
     cc (errors_on (read walk.stack walk.state lower) sector stretch.len len (ground_unit stretch.ground) first.some first.most (first_reads walk.stack walk.state lower sector stretch.len (ground_unit stretch.ground) first.read))
 
--- any other does where what comes after sectors of that stretch does
+-- a range whose first stretch doesn't fail can be read without an error if what follows can
 pub reads_on : (walk : WalkerView) (lower : Lower) (sector n len : ℕ) (stretch : Stretch) → IsFirstOf walk walk MOST_DEPTH lower sector len stretch → (stretch.ground ≡ grounds.Fails → ⊥) → 1 ≤ n → n ≤ stretch.len
     → reads_all walk.stack walk.state lower sector len ≡ reads_all walk.stack walk.state lower (sector + n) (len - n)
 reads_on walk lower sector n len stretch first good some few =
@@ -44,11 +44,11 @@ reads_on walk lower sector n len stretch first good some few =
     good_ground grounds.Fails other = absurd (other refl)
     good_ground ground other = refl
 
--- the copy of a sector
+-- the copy of a sector to its home in the store
 abbrev pub copy_of : WalkerView → ResolvedSnapshot → (number : ℕ) → ℕ → BlockUnit
 copy_of walk snapshot number u = copy_to (read walk.stack walk.state snapshot.origin u) (home_in_store walk.stack snapshot number u)
 
--- what a piece copies, as long as both sides go on, is the next part of the row
+-- a piece that lies in a row on both sides copies the next sectors
 pub copy_next : (walk : WalkerView) (snapshot : ResolvedSnapshot) (number sector len left from to n : ℕ) (source : Stretch) (target : HomeStretch) → 0 < snapshot.chunk → sector % snapshot.chunk + len ≤ snapshot.chunk → left ≤ len → from + left ≡ sector + len
     → to + left ≡ store_sector snapshot number sector + len → IsFirstOf walk walk MOST_DEPTH snapshot.origin from left source → IsFirstHomes walk.stack snapshot.store to left target → n ≤ source.len → n ≤ target.len
     → row (copy_of walk snapshot number) (sector + (len - left)) n ≡ units_in (copy_to (ground_unit source.ground) (record { disk = target.disk; sector = target.start })) n
@@ -60,7 +60,7 @@ copy_next walk snapshot number sector len left from to n source target some part
     cc ((let e : sector + done + i ≡ sector + (done + i) = omega arith in e), store_sector_on snapshot number sector (done + i) some (omega (arith, part, within, more, few_home, homes.most)), (let e : store_sector snapshot number sector + (done + i) ≡ to + i = omega (arith, to_is, within) in e), homes.homes i (omega (arith, more, few_home))) in
     copy_row reads (home_in_store walk.stack snapshot number) (sector + done) n unit target.disk target.start (row_front reads (sector + done) source.len n unit whole few_read) home_part
 
--- and so is a write
+-- a piece that lies in a row on a disk writes the next sectors of the store
 pub next_writes : (before now : WalkerView) (store : Lower) (sector len at left : ℕ) (first : HomeStretch) → stack_state now ≡ stack_state before → left ≤ len → at + left ≡ sector + len → IsFirstHomes now.stack store at left first
     → row (λ s. write_to (home before.stack store s)) (sector + (len - left)) first.len ≡ units_in (WriteOf first.disk first.start) first.len
 next_writes before now store sector len at left first same within position is =

@@ -1,4 +1,4 @@
--- A chunk that was to be taken is settled, and stays so: the sectors of a chunk are written as one step, or all of them fail.
+-- After a chunk was to be taken, it is settled and stays so; so the sectors of one chunk are written in one step, or all of them fail.
 use Rattle.dm_map.proofs.Prelude.{replicate, ℕ, zero, suc, Bool, true, false, cond, not, List, [], Option, Some, None, length, refl, ap, ◌∙◌, arith, is_some, or_parts, or_right, not-false, get_or-set_same, get_or-set_other, ResolvedSnapshot, Description, number_in, has_place, put, with_chunk, lost, Taken, State, none_taken, taken_at, is_keeping, is_refused, is_settled, take_chunk, row, unit_in_store, write_snapshot, copies, first_of, count_of, can_take, Step, keep, and_then, steps, BlockUnit, Fails, units_in}
 use Rattle.dm_map.proofs.state.Numbers.{number_new}
 use Rattle.dm_map.proofs.walk.Rows.{and_then_at, step_assoc, steps_still}
@@ -15,7 +15,7 @@ taken_same state device taken there = get_or-set_same state device taken none_ta
 pub taken_other : (state : State) (device other : ℕ) (taken : Taken) → (other ≡ device → ⊥) → taken_at (put state device taken) other ≡ taken_at state other
 taken_other state device other taken differ = get_or-set_other state device other taken none_taken differ
 
--- What becomes of a chunk that is to be taken: nothing if it is settled, else it is taken, or its snapshot is lost
+-- The outcomes of taking a chunk: nothing if it is settled, else it is taken, or its snapshot becomes lost
 
 pub data ChunkOutcome (state : State) (device chunk : ℕ) (step : Step) : Type 0 where
   Settled : is_settled (taken_at state device) chunk ≡ true → step ≡ keep [] state → ChunkOutcome state device chunk step
@@ -45,7 +45,7 @@ not_settled taken chunk valid fresh = rw (valid, fresh) refl
 pub take_chunk_again : (stack : Description) (snapshot : ResolvedSnapshot) (device chunk : ℕ) (state : State) → is_settled (taken_at state device) chunk ≡ true → take_chunk stack snapshot device chunk state ≡ keep [] state
 take_chunk_again stack snapshot device chunk state settled = rw settled refl
 
--- After that it is settled
+-- After a chunk was to be taken, it is settled
 
 new_settled : (taken : Taken) (chunk : ℕ) → number_in chunk taken.chunks ≡ None → is_settled (with_chunk taken chunk) chunk ≡ true
 new_settled taken chunk fresh = or_right (not taken.valid) _ (rw (number_new chunk taken.chunks fresh) refl)
@@ -55,7 +55,7 @@ take_chunk_settles state device chunk step there (Settled done is) = rw is done
 take_chunk_settles state device chunk step there (Took valid fresh units is) = rw (is, taken_same state device (with_chunk (taken_at state device) chunk) there) (new_settled (taken_at state device) chunk fresh)
 take_chunk_settles state device chunk step there (Lost is) = rw (is, taken_same state device (lost (taken_at state device)) there) refl
 
--- a chunk that is taken has the next number
+-- a chunk that was just taken has the next number
 pub numbered_next : (state after : State) (device chunk : ℕ) → device < length state → is_settled (taken_at state device) chunk ≡ false → after ≡ put state device (with_chunk (taken_at state device) chunk)
     → ((taken_at after device).valid ≡ true) × (number_in chunk (taken_at after device).chunks ≡ Some (length (taken_at state device).chunks))
 numbered_next state after device chunk there fresh is =
@@ -65,9 +65,9 @@ numbered_next state after device chunk there fresh is =
       cc (number_new chunk taken.chunks (none_of _ parts.1)),
     )
 
--- The write of a sector
+-- The write of one sector of a snapshot
 
--- by its chunk, and whether that is refused
+-- the write of a sector, by its chunk and whether it is refused
 abbrev write_by : Bool → Description → ResolvedSnapshot → (device chunk : ℕ) → State → (sector : ℕ) → Step
 write_by refused stack snapshot device chunk state sector = cond refused (keep (Fails ∷ []) state) (and_then (take_chunk stack snapshot device chunk state) (λ after. keep (unit_in_store stack snapshot device after sector ∷ []) after))
 
@@ -81,11 +81,11 @@ passes true true settled is = refl
 passes true false settled is = rw is refl
 passes false placed settled is = refl
 
--- a chunk for which nothing is left to do is not refused
+-- a write to a settled chunk is never refused
 pub settled_passes : (stack : Description) (snapshot : ResolvedSnapshot) (taken : Taken) (chunk : ℕ) → is_settled taken chunk ≡ true → is_refused stack snapshot taken chunk ≡ false
 settled_passes stack snapshot taken chunk settled = passes (is_keeping snapshot.kind) (has_place stack snapshot (length taken.chunks)) (is_settled taken chunk) settled
 
--- any other is where its store keeps what it has, and has no place for one more
+-- a write to a chunk that isn't settled is refused exactly if its store is keeping and full
 fresh_refused : (keeping placed settled : Bool) → settled ≡ false → (keeping && (not placed && not settled)) ≡ (keeping && not placed)
 fresh_refused true true settled is = refl
 fresh_refused true false settled is = rw is refl
@@ -94,7 +94,7 @@ fresh_refused false placed settled is = refl
 pub refused_as : (stack : Description) (snapshot : ResolvedSnapshot) (taken : Taken) (chunk : ℕ) → is_settled taken chunk ≡ false → is_refused stack snapshot taken chunk ≡ (is_keeping snapshot.kind && not (has_place stack snapshot (length taken.chunks)))
 refused_as stack snapshot taken chunk fresh = fresh_refused (is_keeping snapshot.kind) (has_place stack snapshot (length taken.chunks)) (is_settled taken chunk) fresh
 
--- The sectors of a chunk: it is taken once, or each of them fails
+-- Writes to the sectors of one chunk: the chunk is taken once, or every sector fails
 
 pub settled_part : (stack : Description) (snapshot : ResolvedSnapshot) (device chunk sector n : ℕ) (state : State) → is_settled (taken_at state device) chunk ≡ true → ((i : ℕ) → i < n → (sector + i) / snapshot.chunk ≡ chunk)
     → steps (write_snapshot stack snapshot device) state sector n ≡ keep (row (unit_in_store stack snapshot device state) sector n) state
@@ -113,7 +113,7 @@ chunk_part stack snapshot device chunk sector n state passes there each =
     let settled = take_chunk_settles state device chunk made there (chunk_outcome stack snapshot device chunk state) in
     cc (write_is false stack snapshot device chunk state sector here passes, step_assoc made (λ after. keep (unit_in_store stack snapshot device after sector ∷ []) after) (λ after. steps (write_snapshot stack snapshot device) after (suc sector) n), and_then_at made (λ after. and_then (keep (unit_in_store stack snapshot device after sector ∷ []) after) (λ later. steps (write_snapshot stack snapshot device) later (suc sector) n)) (λ after. keep (row (unit_in_store stack snapshot device after) sector (suc n)) after) (rw (settled_part stack snapshot device chunk (suc sector) n made.state settled (λ i within. ap (λ (s : ℕ). s / snapshot.chunk) (let e : suc sector + i ≡ sector + suc i = omega arith in e) ∙ each (suc i) (omega (arith, within))))))
 
--- what is refused changes nothing, so that the next sector is refused too
+-- a refused write changes nothing, so the next sector of the chunk is refused, too
 pub refused_part : (stack : Description) (snapshot : ResolvedSnapshot) (device chunk sector n : ℕ) (state : State) → is_refused stack snapshot (taken_at state device) chunk ≡ true → ((i : ℕ) → i < n → (sector + i) / snapshot.chunk ≡ chunk)
     → steps (write_snapshot stack snapshot device) state sector n ≡ keep (units_in Fails n) state
 refused_part stack snapshot device chunk sector n state refused each =

@@ -7,7 +7,7 @@ use Rattle.dm_map.proofs.walk.Rows.{left_more, steps_read, steps_same, steps_sti
 use Rattle.dm_map.proofs.walk.UnitRows.{row_same, write_row}
 use Rattle.std.specs.Prelude.{◌≡◌, ◌+◌, ◌-◌, ◌*◌, ◌/◌, ◌%◌, ◌<◌, ◌≤◌, ◌∷◌, ◌++◌}
 
--- A line's sectors as those of a snapshot, and of one chunk
+-- The sectors of a snapshot's line are in the snapshot, and in one chunk if they don't pass its end
 
 pub in_snapshot : (stack : Description) (device distance len : ℕ) (line : ResolvedLine) (snapshot : ResolvedSnapshot) → IsLine stack device line → line.target ≡ Snapshot snapshot → 1 ≤ len → distance + len ≤ line.len → AreInSnapshot stack device snapshot distance len
 in_snapshot stack device distance len line snapshot of kind some inside =
@@ -31,7 +31,7 @@ in_one_chunk stack before device sector len at left part snapshot lies same posi
 pub snapshot_device : {stack : Description} {device sector len : ℕ} {snapshot : ResolvedSnapshot} → AreInSnapshot stack device snapshot sector len → 1 ≤ len → device < length stack.devices
 snapshot_device {stack} {device} {sector} whole some = device_there stack device sector (omega (arith, whole.inside, some))
 
--- the first sector of a chunk is there where a later one is
+-- if a sector is in the snapshot, so is the first sector of its chunk
 pub first_there : (stack : Description) (device sector len : ℕ) (snapshot : ResolvedSnapshot) → AreInSnapshot stack device snapshot sector len → 1 ≤ len → AreInSnapshot stack device snapshot (first_of snapshot (sector / snapshot.chunk)) 1
 first_there stack device sector len snapshot chunk some =
     let whole : sector / snapshot.chunk * snapshot.chunk + sector % snapshot.chunk ≡ sector = div-add-mod' sector snapshot.chunk in
@@ -39,7 +39,7 @@ first_there stack device sector len snapshot chunk some =
 
 -- Sectors of one chunk
 
--- the sectors of a chunk that was taken lie one after the other in its place in the store
+-- consecutive sectors of a taken chunk are consecutive in the store
 pub store_sector_on : (snapshot : ResolvedSnapshot) (number sector i : ℕ) → 0 < snapshot.chunk → sector % snapshot.chunk + i < snapshot.chunk → store_sector snapshot number (sector + i) ≡ store_sector snapshot number sector + i
 store_sector_on snapshot number sector i some within =
     let at = (in_chunk snapshot.chunk sector i some (omega (arith, within))).position in omega (arith, at)
@@ -47,17 +47,17 @@ store_sector_on snapshot number sector i some within =
 pub same_chunk : (snapshot : ResolvedSnapshot) (sector i : ℕ) → 0 < snapshot.chunk → sector % snapshot.chunk + i < snapshot.chunk → (sector + i) / snapshot.chunk ≡ sector / snapshot.chunk
 same_chunk snapshot sector i some within = (in_chunk snapshot.chunk sector i some (omega (arith, within))).number
 
--- a chunk begins where its number says
+-- the start of a chunk is at a multiple of the chunk size
 pub chunk_begins : (chunk size : ℕ) → 0 < size → (chunk * size) % size ≡ 0
 chunk_begins chunk size some = rw (let e : chunk * size ≡ chunk * size + 0 = omega arith in e) (mod-mul-add chunk size 0 some)
 
--- its sectors are inside the store where their place is
+-- the sectors of a taken chunk lie in the store if its place does
 pub place_inside : (snapshot : ResolvedSnapshot) (number sector len most : ℕ) → (place snapshot.kind snapshot.chunk number + 1) * snapshot.chunk ≤ most → sector % snapshot.chunk + len ≤ snapshot.chunk → store_sector snapshot number sector + len ≤ most
 place_inside snapshot number sector len most fits part =
     let split : (place snapshot.kind snapshot.chunk number + 1) * snapshot.chunk ≡ place snapshot.kind snapshot.chunk number * snapshot.chunk + snapshot.chunk = grind arith in
     omega (arith, fits, split, part)
 
--- Reads
+-- Reads of a chunk's sectors
 
 over_at : (taken : Taken) (snapshot : ResolvedSnapshot) (sector chunk : ℕ) (number : Option ℕ) → taken.valid ≡ true → sector / snapshot.chunk ≡ chunk → number_in chunk taken.chunks ≡ number → read_over taken snapshot sector ≡ read_numbered snapshot number sector
 over_at taken snapshot sector chunk number valid same is = rw (valid, same, is) refl
@@ -81,7 +81,7 @@ read_origin stack state device sector len snapshot chunk valid is =
       inside = omega (arith, chunk.whole.inside, chunk.whole.sound.origin);
     }
 
--- and so are those of the next chunk, where they are read right after them
+-- sectors of the next chunk may be read together with those of this one, if they come right after them
 pub read_on : (stack : Description) (state : State) (device sector part count : ℕ) (snapshot : ResolvedSnapshot) (source next : ReadAt) → AreReadAt stack state device snapshot sector part source → AreReadAt stack state device snapshot (sector + part) count next
     → next ≡ record { to = source.to; sector = source.sector + part } → AreReadAt stack state device snapshot sector (part + count) source
 read_on stack state device sector part count snapshot source next first later on =
@@ -105,12 +105,12 @@ pub lost_read : (stack : Description) (levels device sector n : ℕ) (snapshot :
 lost_read stack levels device sector n snapshot state off =
     steps_still (target_step stack ops.Read levels device (Snapshot snapshot)) state sector n Fails refl (λ i within. rw off refl)
 
--- Writes
+-- Writes of a chunk's sectors
 
 pub write_line_step : (stack : Description) (levels device sector n : ℕ) (snapshot : ResolvedSnapshot) (state : State) → steps (write_snapshot stack snapshot device) state sector n ≡ line_step stack ops.Write levels device (Snapshot snapshot) state sector n
 write_line_step stack levels device sector n snapshot state = steps_same (write_snapshot stack snapshot device) (target_step stack ops.Write levels device (Snapshot snapshot)) state sector sector n (λ after i within. refl)
 
--- the sectors of a chunk that a valid snapshot has taken under a number, in its place in the store
+-- writes to a chunk with a number go to its place in the store
 
 unit_numbered : (stack : Description) (snapshot : ResolvedSnapshot) (device sector chunk number : ℕ) (state : State) → (taken_at state device).valid ≡ true → sector / snapshot.chunk ≡ chunk → number_in chunk (taken_at state device).chunks ≡ Some number
     → unit_in_store stack snapshot device state sector ≡ write_to (home_in_store stack snapshot number sector)
@@ -123,7 +123,7 @@ row_numbered stack snapshot device sector len number state chunk valid is =
     row_same (unit_in_store stack snapshot device state) (λ s. write_to (home stack snapshot.store s)) sector (store_sector snapshot number sector) len
     (λ i within. cc (unit_numbered stack snapshot device (sector + i) (sector / snapshot.chunk) number state valid (same_chunk snapshot sector i some (omega (arith, chunk.part, within))) is, store_sector_on snapshot number sector i some (omega (arith, chunk.part, within))))
 
--- where it was just taken, some of them lie in a row on a disk
+-- in a chunk just taken, the first sectors lie in a row on a disk
 pub row_taken : (stack : Description) (snapshot : ResolvedSnapshot) (device sector len number : ℕ) (state : State) (first : HomeStretch) → AreInChunk stack device snapshot sector len → IsTakenAs stack state device snapshot (sector / snapshot.chunk) number first → sector % snapshot.chunk + len ≤ first.len
     → row (unit_in_store stack snapshot device state) sector len ≡ units_in (WriteOf first.disk (first.start + sector % snapshot.chunk)) len
 row_taken stack snapshot device sector len number state first chunk taken within =
@@ -139,20 +139,20 @@ row_lost stack snapshot device sector (suc len) state off =
     let here : unit_in_store stack snapshot device state sector ≡ Fails = rw off refl in
     cc (row_lost stack snapshot device (suc sector) len state off)
 
--- the write of sectors of a chunk for which nothing is left to do
+-- the write to sectors of a settled chunk
 pub settled_written : (stack : Description) (snapshot : ResolvedSnapshot) (device sector len : ℕ) (state : State) → AreInChunk stack device snapshot sector len → is_settled (taken_at state device) (sector / snapshot.chunk) ≡ true
     → keep (row (unit_in_store stack snapshot device state) sector len) state ≡ steps (write_snapshot stack snapshot device) state sector len
 settled_written stack snapshot device sector len state chunk settled =
     sym (settled_part stack snapshot device (sector / snapshot.chunk) sector len state settled (λ i within. same_chunk snapshot sector i chunk.whole.sound.chunk_some (omega (arith, chunk.part, within))))
 
--- of one that is not refused: it is taken, and they are written
+-- the write to sectors of a chunk that isn't refused: the chunk is taken, and then they are written
 pub chunk_written : (stack : Description) (snapshot : ResolvedSnapshot) (device sector len : ℕ) (state : State) → AreInChunk stack device snapshot sector len → 1 ≤ len → device < length state → is_refused stack snapshot (taken_at state device) (sector / snapshot.chunk) ≡ false
     → and_then (take_chunk stack snapshot device (sector / snapshot.chunk) state) (λ after. keep (row (unit_in_store stack snapshot device after) sector len) after) ≡ steps (write_snapshot stack snapshot device) state sector len
 chunk_written stack snapshot device sector zero state chunk some there passes = absurd (omega (arith, some))
 chunk_written stack snapshot device sector (suc n) state chunk some there passes =
     sym (chunk_part stack snapshot device (sector / snapshot.chunk) sector n state passes there (λ i within. same_chunk snapshot sector i chunk.whole.sound.chunk_some (omega (arith, chunk.part, within))))
 
--- its units begin with those of taking the chunk
+-- a sink that failed while the chunk was taken failed at a prefix of the write's units
 pub left_taking : {S : Type 0} (left : S → List BlockUnit → S → Type 0) (old new : S) (stack : Description) (snapshot : ResolvedSnapshot) (device sector len : ℕ) (state : State) → 1 ≤ len → is_refused stack snapshot (taken_at state device) (sector / snapshot.chunk) ≡ false
     → OfBeginning left old (take_chunk stack snapshot device (sector / snapshot.chunk) state).units new → OfBeginning left old (steps (write_snapshot stack snapshot device) state sector len).units new
 left_taking left old new stack snapshot device sector zero state some passes cut = absurd (omega (arith, some))
@@ -162,7 +162,7 @@ left_taking left old new stack snapshot device sector (suc n) state some passes 
     left_more left old new made.units (unit ++ (steps (write_snapshot stack snapshot device) made.state (suc sector) n).units) _
     (rw (write_is false stack snapshot device (sector / snapshot.chunk) state sector refl passes, append_assoc made.units unit _)) cut
 
--- and where it is refused, they fail
+-- a refused write to sectors of a chunk fails for all of them
 pub chunk_refused : (stack : Description) (snapshot : ResolvedSnapshot) (device sector len : ℕ) (state : State) → AreInChunk stack device snapshot sector len → is_refused stack snapshot (taken_at state device) (sector / snapshot.chunk) ≡ true
     → keep (units_in Fails len) state ≡ steps (write_snapshot stack snapshot device) state sector len
 chunk_refused stack snapshot device sector len state chunk refused =

@@ -1,11 +1,11 @@
--- What lies below a line is less deep than its device.
+-- What lies below a line is less deep than the line's device.
 use Rattle.dm_map.proofs.Prelude.{ℕ, zero, suc, List, [], Option, Some, None, length, map, refl, ap, subst, ◌∙◌, arith, option_map, slice_get, AllByRecursion, range_with_len, get_or_from_slice_get, slice_get-map, Line, ResolvedLine, ResolvedSnapshot, Lower, Device, Disk, Below, Lies, below_target, found_at, resolved_line, holds, line_of, Description, device_links, lines_at, links, depth_to, greatest, links_of, lower_depth, stack_depth, IsSound, depth_of, line_links, shallow_device, found, lines_there, there, read_over, State, taken_at}
 use Rattle.dm_stack.proofs.DepthLemmas.{depth_to-deeper}
 use Rattle.dm_map.proofs.state.ResolvedLines.{line_there}
 use Rattle.dm_map.proofs.walk.LevelLemmas.{GoesOn, OnBelow, OnLower, on_lines, on_target, over_read}
 use Rattle.std.specs.Prelude.{◌≡◌, ◌+◌, ◌-◌, ◌<◌, ◌≤◌, ◌∷◌}
 
--- what one of some lines, found by a sector, has below it
+-- what lies below the line that holds a sector satisfies P, if what the lines name does
 on_found : (over : ResolvedSnapshot → ℕ → Below) (stack : Description) (P : ℕ → Type 0) (lines : List Line) (sector distance : ℕ) (held : Option Line) (line : ResolvedLine) → GoesOn over P → AllByRecursion (λ l. AllByRecursion P (line_links stack l)) lines
     → line_of lines sector ≡ held → option_map (resolved_line stack) held ≡ Some line → OnBelow P (below_target over line.target distance)
 on_found over stack P lines sector distance None line on each e is = absurd cc
@@ -13,7 +13,7 @@ on_found over stack P lines sector distance (Some l) line on each e is =
     let same : resolved_line stack l ≡ line = cc in
     rw (← same) (on_target over stack P l.len l.target distance on (found (λ x. AllByRecursion P (line_links stack x)) (holds sector) lines l each e).1)
 
--- the lines of a device name what it names
+-- what a device's lines name is what the device names
 device_lines : (stack : Description) (P : ℕ → Type 0) (device : ℕ) → device < length stack.devices → AllByRecursion P (links_of (links stack) device) → AllByRecursion (λ l. AllByRecursion P (line_links stack l)) (lines_at stack device)
 device_lines stack P device within each =
     let d = there stack.devices device within in
@@ -45,7 +45,7 @@ below_less stack state device sector distance line to lower sound is lies =
     let less = lower_less stack device to (omega (arith, deeper)) (at_below P _ to lower on lies) in
     omega (arith, less)
 
--- a device has a depth, and none is deeper than the stack
+-- every device has depth 1 at least, and none is deeper than the stack
 pub depth_some : (stack : Description) (device : ℕ) → 1 ≤ depth_of stack device
 unfolding depth_to
 depth_some stack device = omega arith

@@ -1,4 +1,4 @@
--- A striped line whose columns are all on disks: a sink takes its legs in one go.
+-- A striped line whose columns are all on disks: a sink receives all of its legs at once.
 use Rattle.dm_map.proofs.Prelude.{ℕ, zero, suc, true, false, [], refl, sym, ap, ◌∙◌, arith, Result, on_ok_weaker, Op, Disk, ResolvedLine, ResolvedTarget, on_ok, Description, Below, Lies, below_plain, has_state, IsLine, has_disk_columns, AreOnDisks, LegsView, sector_on_disk, IsOnADisk, AreHanded, SinkPast, below_unit, legs_units, line_units, State, WalkerView, IsMapped, target_mapping, write_step, below_step, line_step, target_step, read_unit, Step, keep, steps}
 use Rattle.dm_table.specs.declared.requests.request.Op.TheVariants as ops
 use Rattle.dm_stack.specs.declared.lines.resolved_line.ResolvedTarget.TheVariants as found
@@ -6,13 +6,13 @@ use Rattle.dm_map.proofs.walk.Ranges.{plain_step}
 use Rattle.dm_map.proofs.walk.Rows.{none_added, walked_as}
 use Rattle.std.specs.Prelude.{◌≡◌, ◌+◌, ◌≤◌, ◌∷◌}
 
--- its sectors that are left lie on disks
+-- the legs left of a line striped over disks lie on disks
 pub legs_on_disks : (stack other : Description) (device : ℕ) (line : ResolvedLine) (legs : LegsView) (distance len : ℕ) → other ≡ stack → IsLine stack device line → distance + len ≤ line.len → has_disk_columns line.target ≡ true → legs ≡ record { target = line.target; distance = distance; left = len }
     → AreOnDisks other legs
 legs_on_disks stack other device line legs distance len same of inside each made =
     rw (same, made) (record { device = device; start = line.start; len = line.len; sound = of.target; inside = inside; columns = each })
 
--- the step of one of them
+-- the step of one sector of the line
 disk_plain : (target : ResolvedTarget) → has_disk_columns target ≡ true → has_state target ≡ false
 disk_plain (found.Striped chunk columns) each = refl
 disk_plain target each = absurd cc
@@ -27,7 +27,7 @@ disk_sector stack op levels device distance target state plain on =
     plain_step stack op levels device target distance state plain ∙ ap (λ (b : Below). below_step stack op levels b state) on.is
     ∙ below_disk stack op levels on.disk on.sector state ∙ ap (λ (b : Below). keep (below_unit op b ∷ []) state) (sym on.is)
 
--- and that of all of them
+-- the steps of several sectors of the line
 units_row : (step : State → ℕ → Step) (op : Op) (target : ResolvedTarget) (distance n : ℕ) (state : State) → ((d : ℕ) → step state d ≡ keep (below_unit op (below_plain target d) ∷ []) state) → steps step state distance n ≡ keep (line_units op target distance n) state
 units_row step op target distance zero state each = refl
 units_row step op target distance (suc n) state each =
@@ -38,7 +38,7 @@ disk_steps : (stack : Description) (op : Op) (levels device distance n : ℕ) (t
 disk_steps stack op levels device distance n target state plain each =
     units_row (target_step stack op levels device target) op target distance n state (λ d. disk_sector stack op levels device d target state plain (each d))
 
--- so they are mapped where a sink took their units
+-- the sectors are mapped once the sink received the units of the legs
 pub mapped_on_disks : {S F : Type 0} {past : SinkPast S} {result : Result (Unit {0}) F} {old new : S} {walk : WalkerView} {legs : LegsView} (op : Op) (levels device distance len : ℕ) (line : ResolvedLine) → IsLine walk.stack device line → has_disk_columns line.target ≡ true
     → legs ≡ record { target = line.target; distance = distance; left = len } → AreHanded past result old new (legs_units op legs) → IsMapped past result old new walk walk (target_mapping op levels device line.start line.target) distance len
 mapped_on_disks {past} {result} {old} {new} {walk} op levels device distance len line of each made handed =

@@ -1,4 +1,4 @@
--- Sectors that lie in a row on a disk, and the results where others were handed over.
+-- Requests whose sectors lie in a row on a disk, and the results of those that were handed to the sink.
 use Rattle.dm_map.proofs.Prelude.{ℕ, false, List, Some, refl, sym, ◌∙◌, arith, Option, Result, Ok, Err, Op, ResolvedLine, Lower, Disk, Description, IsLineOf, disk_there, IsHanded, SinkPast, BlockUnit, disk_unit, units_in, read_over, taken_at, WalkerView, IsMapped, Mapping, found_mapping, range_mapping, IsHome, handed, or_home, range_step, refuses, IsLegOf, IsWalked, Step, keep}
 use Rattle.dm_stack.specs.declared.checks.graph.TheConstants.{MOST_DEPTH}
 use Rattle.dm_stack.specs.declared.lines.leg.Beneath.TheVariants.{Lies}
@@ -9,13 +9,13 @@ use Rattle.dm_map.proofs.walk.Rows.{walked_piece}
 use Rattle.dm_map.proofs.walk.Spans.{below_is}
 use Rattle.std.specs.Prelude.{◌≡◌, ◌+◌, ◌-◌, ◌≤◌}
 
--- A disk
+-- Sectors of a disk
 
 pub disk_step : (w : WalkerView) (op : Op) (levels : ℕ) (lower : Lower) (disk sector len : ℕ) (units : List BlockUnit) → lower ≡ Disk disk → units ≡ units_in (disk_unit op disk sector) len → keep units w.state ≡ range_step w.stack op levels lower w.state sector len
 disk_step w op levels lower disk sector len units is units_is =
     cc (range_disk w.stack op levels disk sector len w.state)
 
--- Units that were handed over
+-- Units that were handed to the sink
 
 over : {S F : Type 0} {past : SinkPast S} {old new : S} {before after : WalkerView} {step : Step} {len : ℕ} (stack : Description) (op : Op) (n : ℕ) (result : Result (Unit {0}) F)
     → IsWalked past result old new before after step len → IsWalked (or_home past stack op n (handed result)) (handed result) old new before after step len
@@ -31,7 +31,7 @@ pub mapped_over : {S F : Type 0} {past : SinkPast S} {old new : S} {before after
     → answer ≡ handed result → IsMapped past result old new before after mapping first len → IsMapped (or_home past stack op n answer) answer old new before after mapping first len
 mapped_over stack op n is mapped = record { walked = walked_over stack op n is mapped.walked; bounded = mapped.bounded }
 
--- Sectors that are not handed over
+-- Sectors whose home is returned instead
 
 pub home_mapped : {S F : Type 0} (past : SinkPast S) (sink : S) (w : WalkerView) (op : Op) (device sector len : ℕ) (line : ResolvedLine) (home : Home) (stack : Description) → stack ≡ w.stack
     → refuses w.stack op device ≡ false → IsLineOf w.stack device line sector → 1 ≤ len → sector + len ≤ line.start + line.len → IsLegOf w.stack device line (sector - line.start) (record { below = Lies (Disk home.disk) home.start; len = len })

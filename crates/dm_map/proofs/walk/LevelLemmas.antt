@@ -1,4 +1,4 @@
--- Where the levels are at least a device's depth, their number plays no part.
+-- If the limit on levels is at least a device's depth, it makes no difference.
 use Rattle.dm_map.proofs.Prelude.{ℕ, zero, suc, Bool, true, false, cond, List, [], Option, Some, None, length, map, refl, ap, subst, ◌∙◌, arith, option_map, slice_get, nat_lt, AllByRecursion, flat_map, ltb-false, get_or_from_slice_get, slice_get-map, DevRef, Target, Reading, Line, DeviceSpec, Lower, Device, Disk, ResolvedLine, ResolvedTarget, ResolvedSnapshot, Span, target_spans, whole_span, Description, lower_of, ref_link, device_links, links, lines_or_none, links_of, greatest, depth_to, Below, Lies, IsZero, IsError, below, below_line, below_plain, below_target, resolved_line, resolved_target, found_at, holds, line_of, resolved_snapshot, IsSound, depth_of, line_links, passes_all, found, none_at, Zeros, Drops, Fails, serve, number_in, read_numbered, read_over, State, Taken, taken_at, Step, keep, by_below, read_below, read_unit, AreHomesFreeOfLevels, home_to, nowhere, write_line, write_target, write_step, IsFreeOfLevels, all_parts, at_index}
 use Rattle.dm_table.specs.declared.tables.table.DevRef.TheVariants as refs
 use Rattle.dm_table.specs.declared.tables.table.Target.TheVariants as targets
@@ -9,7 +9,7 @@ use Rattle.dm_map.proofs.walk.Rows.{and_then_at}
 use Rattle.dm_map.proofs.walk.Spans.{plain_span, span_index}
 use Rattle.std.specs.Prelude.{◌≡◌, ◌+◌, ◌-◌, ◌/◌, ◌<◌, ◌≤◌, ◌∷◌}
 
--- What lies below a device is among what it names
+-- What lies below a device is something that the device names
 
 unfoldable pub OnLower : (ℕ → Type 0) → Lower → Type 0
 OnLower P (Device device) = P device
@@ -41,7 +41,7 @@ on_plain stack P len target distance (Lies to at) each is =
     subst (OnLower P) in_span.on (at_index (λ span. OnLower P (lower_of stack span.to)) (target_spans len target) (span_index (resolved_target stack target) distance) in_span.span (on_spans stack P (target_spans len target) each) in_span.is)
 on_plain stack P len target distance b each is = tt
 
--- a snapshot goes on in its store or its origin, where it goes on
+-- a snapshot's sectors lie in its store or its origin
 unfoldable pub GoesOn : (over : ResolvedSnapshot → ℕ → Below) (P : ℕ → Type 0) → Type 0
 GoesOn over P = (snapshot : ResolvedSnapshot) (sector : ℕ) → OnLower P snapshot.store → OnLower P snapshot.origin → OnBelow P (over snapshot sector)
 
@@ -86,9 +86,9 @@ on_device over stack P device sector (Some spec) on e each =
 pub on_below : (over : ResolvedSnapshot → ℕ → Below) (stack : Description) (P : ℕ → Type 0) (device sector : ℕ) → GoesOn over P → AllByRecursion P (links_of (links stack) device) → OnBelow P (below over stack device sector)
 on_below over stack P device sector on each = on_device over stack P device sector (slice_get stack.devices device) on refl each
 
--- What a device names is less deep
+-- What a device names is less deep than the device
 
--- a depth that n levels are enough to see, and that is at most j and k
+-- a device whose depth is seen in fewer than n levels, and is at most j and k
 pub record IsShallow (g : List (List ℕ)) (n j k device : ℕ) : Type 0 where
   pub seen : depth_to g n device < n
   pub first : depth_to g n device ≤ j
@@ -108,7 +108,7 @@ some_level : (g : List (List ℕ)) (n k device : ℕ) → depth_to g (suc n) dev
 unfolding depth_to
 some_level g n k device h = omega (arith, h)
 
--- The units at two numbers of levels
+-- Units at two limits on levels
 
 pub same_below : {X : Type 0} (P : ℕ → Type 0) (b : Below) (zeros fails : X) (f h : Lower → ℕ → X) → OnBelow P b → ((to : Lower) (sector : ℕ) → OnLower P to → f to sector ≡ h to sector) → by_below b zeros fails f ≡ by_below b zeros fails h
 unfolding OnBelow
@@ -149,7 +149,7 @@ same_write stack (suc n) (suc j) zero (Device device) state sector h = absurd (s
 same_write stack (suc n) (suc j) (suc k) (Device device) state sector h =
     cc (same_line (IsShallow (links stack) n j k) stack state device (found_at stack device sector) sector (λ to after s. write_step stack j to after s) (λ to after s. write_step stack k to after s) (on_below (read_over (taken_at state device)) stack (IsShallow (links stack) n j k) device sector (over_read (IsShallow (links stack) n j k) (taken_at state device)) (named_shallow (links stack) n j k device h)) (λ after to s on. same_write stack n j k to after s on))
 
--- A sound stack is nowhere too deep
+-- In a sound stack no device is deeper than the limit
 
 pub shallow : (stack : Description) (device : ℕ) → IsSound stack → device < length stack.devices → depth_of stack device ≤ MOST_DEPTH
 shallow stack device sound there =
@@ -173,7 +173,7 @@ writes_free stack sound = record {
   same = λ device levels sector state there enough. same_write stack (suc MOST_DEPTH) levels MOST_DEPTH (Device device) state sector (shallow_at stack device levels sound there enough);
 }
 
--- The homes at two numbers of levels
+-- Homes at two limits on levels
 
 over_none : (P : ℕ → Type 0) → GoesOn (λ snapshot sector. IsError) P
 unfolding GoesOn OnBelow

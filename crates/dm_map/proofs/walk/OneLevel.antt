@@ -1,11 +1,11 @@
--- One level down: what lies below is less deep, and from there on the levels that are left play no part.
+-- One level down a stack: what lies below is less deep, and a smaller limit on levels is enough for it.
 use Rattle.dm_map.proofs.Prelude.{ℕ, zero, suc, inl, inr, cond, [], Option, Some, None, length, refl, ◌∙◌, arith, AllByRecursion, cases_lt, slice_get_past, Lower, Device, Disk, ResolvedLine, Lies, IsError, below, below_line, found_at, Description, is_ro_at, links, links_of, lower_depth, IsSound, depth_of, write_line, write_step, by_below, read_below, read_unit, read, read_over, State, taken_at, keep, ReadOf, Zeros, Fails}
 use Rattle.dm_stack.specs.declared.checks.graph.TheConstants.{MOST_DEPTH}
 use Rattle.dm_map.proofs.walk.Depths.{below_less, depth_some}
 use Rattle.dm_map.proofs.walk.LevelLemmas.{IsShallow, OnBelow, named_shallow, on_below, over_read, same_below, same_line, same_read, same_write, shallow}
 use Rattle.std.specs.Prelude.{◌≡◌, ◌-◌, ◌<◌, ◌≤◌, ◌∷◌}
 
--- What lies below a device is less deep
+-- What lies below a device is less deep than the device
 
 none_past : (stack : Description) (device sector : ℕ) → length stack.devices ≤ device → found_at stack device sector ≡ None
 none_past stack device sector past = cc (slice_get_past stack.devices device past)
@@ -22,7 +22,7 @@ next_line stack state device sector to at (Some line) sound is e =
 pub next_depth : (stack : Description) (state : State) (device sector : ℕ) (to : Lower) (at : ℕ) → IsSound stack → read_below stack state device sector ≡ Lies to at → lower_depth stack to < depth_of stack device
 next_depth stack state device sector to at sound e = next_line stack state device sector to at (found_at stack device sector) sound refl e
 
--- The levels that are left
+-- The limit on levels for what lies below
 
 shallow_named : (stack : Description) (device : ℕ) → IsSound stack → device < length stack.devices → AllByRecursion (IsShallow (links stack) 32 31 32) (links_of (links stack) device)
 shallow_named stack device sound there =
@@ -60,7 +60,7 @@ pub write_down : (stack : Description) (device sector : ℕ) (state : State) →
 write_down stack device sector state sound =
     cc (write_suc stack 31 device sector state, same_line (IsShallow (links stack) 32 31 32) stack state device (found_at stack device sector) sector (λ to after at. write_step stack 31 to after at) (λ to after at. write_step stack 32 to after at) (shallow_below stack state device sector sound) (λ after to at on. same_write stack 32 31 32 to after at on))
 
--- Induction on the depth
+-- Induction on the depth of a device or disk
 
 up_to : (stack : Description) (P : Lower → Type 0) → ((lower : Lower) → ((other : Lower) → lower_depth stack other < lower_depth stack lower → P other) → P lower) → (n : ℕ) (lower : Lower) → lower_depth stack lower < n → P lower
 up_to stack P step zero lower below = absurd (omega (arith, below))

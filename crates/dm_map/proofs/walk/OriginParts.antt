@@ -1,4 +1,4 @@
--- A part of the sectors of an origin's device as one walk: its snapshots are served, and then the sectors of the origin are written.
+-- A write to part of an origin's device as one walk: its snapshots are served, and then the sectors of the origin are written.
 use Rattle.dm_map.proofs.Prelude.{ℕ, zero, suc, List, append_assoc, sym, arith, All, Result, Ok, Err, All-from_recursion, ResolvedOrigin, ResolvedOver, Description, lower_len, snapshots_over, IsSound, sector_step, AreSettled, IsOver, serve, IsLawful, SinkPast, State, steps, WalkerView, IsMapped, origin_mapping, range_mapping, IsWalked, range_step, served_sector}
 use Rattle.dm_table.specs.declared.requests.request.Op.TheVariants as ops
 use Rattle.dm_map.proofs.walk.Overs.{overs}
@@ -7,17 +7,17 @@ use Rattle.dm_map.proofs.walk.Served.{StepsKeep, part}
 use Rattle.dm_map.proofs.walk.Settled.{write_keeps_settled}
 use Rattle.std.specs.Prelude.{◌≡◌, ◌+◌, ◌<◌, ◌≤◌, ◌++◌}
 
--- the snapshots of an origin, as a line has them, have its sectors
+-- each snapshot in an origin's list has the sectors that the origin has
 pub line_overs : (stack before : Description) (origin : ResolvedOrigin) (over : List ResolvedOver) (sector len end : ℕ) → IsSound stack → before ≡ stack → over ≡ origin.over → origin.over ≡ snapshots_over stack origin.to → sector + len ≤ lower_len stack origin.to → end ≤ sector + len → All (IsOver before end) over
 line_overs stack before origin over sector len end sound same list all inside within =
     let each = All-from_recursion (IsOver stack end) _ (overs stack origin.to end sound (omega (arith, inside, within))) in
     rw (same, list, all) each
 
--- what serving gives, by what the origin has
+-- serving an equal list of snapshots gives the same step
 served_is : (stack : Description) (origin : ResolvedOrigin) (over : List ResolvedOver) (at : ℕ) (state : State) → over ≡ origin.over → serve stack over at state ≡ serve stack origin.over at state
 served_is stack origin over at state list = cc
 
--- the sink failed at what serving gives
+-- the sink failed while the snapshots were served
 pub serve_failed : {S F : Type 0} {past : SinkPast S} {fault : F} {old new : S} {before after : WalkerView} {over : List ResolvedOver} (levels at n : ℕ) (origin : ResolvedOrigin) → over ≡ origin.over → 1 ≤ n
     → IsWalked {R = Unit {0}} past (Err fault) old new before after (serve before.stack over at before.state) 0 → IsMapped {R = Unit {0}} past (Err fault) old new before after (origin_mapping ops.Write levels origin) at n
 serve_failed levels at zero origin list some walk = absurd (omega (arith, some))
@@ -39,7 +39,7 @@ serve_failed {past} {old} {new} {before} {over} levels at (suc k) origin list so
       bounded = λ is. absurd cc;
     }
 
--- or it took it, and the sectors are written
+-- the snapshots were served, and then the sectors were written
 pub part_mapped : {S F G : Type 0} {past : SinkPast S} {result : Result (Unit {0}) F} {fine : Unit {0}} {old middle new : S} {before between after : WalkerView} {over : List ResolvedOver} → IsLawful past → (levels at n : ℕ) (origin : ResolvedOrigin) → over ≡ origin.over → 1 ≤ n
     → IsWalked {F = G} past (Ok fine) old middle before between (serve before.stack over at before.state) 0 → ((i : ℕ) → i < n → AreSettled between.state over (at + i))
     → IsMapped past result middle new between after (range_mapping ops.Write levels origin.to) at n → IsMapped past result old new before after (origin_mapping ops.Write levels origin) at n

@@ -1,13 +1,13 @@
--- Stretches of paths: where they are the same, and how those of two ranges add up.
+-- Stretches of paths: when two ranges have equally many, and how many two ranges have together.
 use Rattle.dm_map.proofs.Prelude.{ℕ, zero, suc, Bool, true, false, cond, List, Option, refl, sym, ap, arith, and_parts, eq-eqb, mul-le-mul, mul-le-mul_left, is_same_chunk, PathStep, changes, is_same_path, is_same_step, stretches}
 use Rattle.std.specs.Prelude.{◌≡◌, ◌+◌, ◌-◌, ◌*◌, ◌<◌, ◌≤◌, ◌∷◌, ◌==◌}
 
--- Steps
+-- Steps of paths
 
 other_head : (step next : PathStep) (path other : List PathStep) → is_same_step step next ≡ false → is_same_path (step ∷ path) (next ∷ other) ≡ false
 other_head step next path other differs = rw differs refl
 
--- paths that go on in another line, and in another chunk
+-- paths differ in their first step if the lines or the chunks there differ
 pub other_start : (device start next : ℕ) (chunk later : Option ℕ) (path other : List PathStep) → (start == next) ≡ false
     → is_same_path (record { device = device; start = start; chunk = chunk } ∷ path) (record { device = device; start = next; chunk = later } ∷ other) ≡ false
 other_start device start next chunk later path other differs =
@@ -20,7 +20,7 @@ other_chunk device start chunk next path other differs =
     let here : is_same_step (record { device = device; start = start; chunk = chunk }) (record { device = device; start = start; chunk = next }) ≡ false = rw (eq-eqb device device refl, eq-eqb start start refl, differs) refl in
     other_head (record { device = device; start = start; chunk = chunk }) (record { device = device; start = start; chunk = next }) path other here
 
--- Stretches that are the same
+-- Ranges with equally many stretches
 
 changes_same : (f h : ℕ → List PathStep) (s t n : ℕ) → ((i : ℕ) → i < n → is_same_path (f (s + i)) (f (s + suc i)) ≡ is_same_path (h (t + i)) (h (t + suc i))) → changes f s n ≡ changes h t n
 changes_same f h s t zero each = refl
@@ -32,13 +32,13 @@ changes_same f h s t (suc n) each =
     cc ((let e : suc s + i ≡ s + suc i = omega arith in e), (let e : suc s + suc i ≡ s + suc (suc i) = omega arith in e), each (suc i) (omega (arith, within)), (let e : t + suc i ≡ suc t + i = omega arith in e), (let e : t + suc (suc i) ≡ suc t + suc i = omega arith in e))) in
     cc
 
--- sectors with equal paths have equal stretches
+-- ranges with equal paths have equally many stretches
 pub stretches_same : (f h : ℕ → List PathStep) (s t n : ℕ) → ((i : ℕ) → i < n → f (s + i) ≡ h (t + i)) → stretches f s n ≡ stretches h t n
 stretches_same f h s t zero each = refl
 stretches_same f h s t (suc n) each = ap suc (changes_same f h s t n (λ i within.
     cc (each i (omega (arith, within)), each (suc i) (omega (arith, within)))))
 
--- paths that go on in these ones, each after a step of its own
+-- two paths that stay the same below don't change below, so there are at most as many changes as above
 fewer_here : (a b : Bool) → (a ≡ true → b ≡ true) → cond b 0 1 ≤ cond a 0 1
 fewer_here true b same = rw (same refl) (omega arith)
 fewer_here false true same = omega arith
@@ -65,7 +65,7 @@ stretches_below f h step s t (suc n) each =
     tail_same (step i) (step (suc i)) (h (t + i)) (h (suc (t + i))) (rw (each i (omega (arith, within)), next) at same)) in
     omega (arith, few)
 
--- Stretches of two ranges
+-- The stretches of two ranges together
 
 changes-append : (f : ℕ → List PathStep) (s m n : ℕ) → changes f s (m + n) ≡ changes f s m + changes f (s + m) n
 changes-append f s zero n = let e : 0 + n ≡ n = omega arith in let k : s + 0 ≡ s = omega arith in rw (e, k) (omega arith)
@@ -98,14 +98,14 @@ stretches_some : (f : ℕ → List PathStep) (s n : ℕ) → 1 ≤ n → 1 ≤ s
 stretches_some f s zero some = absurd (omega (arith, some))
 stretches_some f s (suc n) some = omega arith
 
--- Searches by stretches: those so far are first, then next, then last
+-- Bounds on searches by stretches, from the count before to the counts after each part
 
 sum_bound : (levels a b c first next last : ℕ) → c ≡ a + b → next ≤ first + levels * a → last ≤ next + levels * b → last ≤ first + levels * c
 sum_bound levels a b c first next last is one two =
     let sum : levels * (a + b) ≡ levels * a + levels * b = grind arith in
     rw is (omega (arith, sum, one, two))
 
--- of a range and what comes after it, where the path changes
+-- the searches of two ranges, if the path changes between them
 pub searches_on : (paths : ℕ → List PathStep) (levels sector done n first next last : ℕ) → (0 < done → is_same_path (paths (sector + done - 1)) (paths (sector + done)) ≡ false) → 1 ≤ n
     → next ≤ first + levels * stretches paths sector done → last ≤ next + levels * stretches paths (sector + done) n → last ≤ first + levels * stretches paths sector (done + n)
 searches_on paths levels sector done zero first next last apart some one two = absurd (omega (arith, some))
@@ -118,16 +118,16 @@ searches_on paths levels sector (suc m) (suc n) first next last apart some one t
     cc (apart (omega arith)) in
     sum_bound levels (stretches paths sector (suc m)) (stretches paths (sector + suc m) (suc n)) _ first next last (stretches_apart paths sector m n here) one two
 
--- of the beginning of a range
+-- the searches of a prefix of a range
 pub searches_more : (paths : ℕ → List PathStep) (levels sector m n first last : ℕ) → m ≤ n → last ≤ first + levels * stretches paths sector m → last ≤ first + levels * stretches paths sector n
 searches_more paths levels sector m n first last few one = let more = mul-le-mul_left levels (stretches_more paths sector m n few) in omega (arith, one, more)
 
--- of what lies below, which is less deep
+-- the searches below a line, where there are fewer levels
 pub searches_below : (paths lower : ℕ → List PathStep) (fewer levels s t n first last : ℕ) → fewer ≤ levels → stretches lower t n ≤ stretches paths s n → last ≤ first + fewer * stretches lower t n → last ≤ first + levels * stretches paths s n
 searches_below paths lower fewer levels s t n first last less few one =
     let more : fewer * stretches lower t n ≤ levels * stretches paths s n = mul-le-mul less few in omega (arith, one, more)
 
--- of a line, and the search that found it
+-- the searches of a line, and the one that found it
 pub searches_line : (paths lower : ℕ → List PathStep) (levels s t n first next last : ℕ) → 1 ≤ levels → 1 ≤ n → next ≤ first + 1 → stretches paths s n ≡ stretches lower t n → last ≤ next + (levels - 1) * stretches lower t n
     → last ≤ first + levels * stretches paths s n
 searches_line paths lower zero s t n first next last deep some one same two = absurd (omega (arith, deep))

@@ -10,7 +10,7 @@ still_zeros : (op : Op) → next_unit (zero_unit op) ≡ zero_unit op
 still_zeros ops.Read = refl
 still_zeros ops.Write = refl
 
--- One sector
+-- The step of one sector
 
 sector_line : (stack : Description) (op : Op) (levels device sector : ℕ) (state : State) (line : ResolvedLine) → refuses stack op device ≡ false → found_at stack device sector ≡ Some line
     → sector_step stack op (suc levels) (Device device) state sector ≡ target_step stack op levels device line.target state (sector - line.start)
@@ -29,7 +29,7 @@ unfolding read_unit write_step
 sector_deepest stack ops.Read device sector state = refl
 sector_deepest stack ops.Write device sector state = refl
 
--- A range
+-- The step of a range
 
 pub range_disk : (stack : Description) (op : Op) (levels disk sector n : ℕ) (state : State) → range_step stack op levels (Disk disk) state sector n ≡ keep (units_in (disk_unit op disk sector) n) state
 unfolding read_unit write_step
@@ -46,7 +46,7 @@ pub range_refused : (stack : Description) (op : Op) (levels device sector n : �
 range_refused stack op levels device sector n state shut =
     steps_still (sector_step stack op levels (Device device)) state sector n Fails refl (λ i within. sector_refused stack op levels device (sector + i) state shut)
 
--- a range that lies in one line
+-- the step of a range that lies in one line
 pub range_line : (stack : Description) (op : Op) (levels fewer device sector n : ℕ) (state : State) (line : ResolvedLine) → levels ≡ suc fewer → refuses stack op device ≡ false → line.start ≤ sector
     → ((i : ℕ) → i < n → found_at stack device (sector + i) ≡ Some line) → range_step stack op levels (Device device) state sector n ≡ line_step stack op fewer device line.target state (sector - line.start) n
 range_line stack op levels fewer device sector n state line more passes from each =
@@ -61,18 +61,18 @@ read_step : (stack : Description) (levels : ℕ) (b : Below) (state : State) →
 read_step stack levels (Lies to sector) state = refl
 read_step stack levels b state = refl
 
--- one sector of a target without a state
+-- the step of one sector of a line without state
 pub plain_step : (stack : Description) (op : Op) (levels device : ℕ) (target : ResolvedTarget) (distance : ℕ) (state : State) → has_state target ≡ false → target_step stack op levels device target state distance ≡ below_step stack op levels (below_plain target distance) state
 plain_step stack op levels device (found.Snapshot snapshot) distance state plain = absurd cc
 plain_step stack op levels device (found.Origin origin) distance state plain = absurd cc
 plain_step stack ops.Read levels device target distance state plain = read_step stack levels (below_plain target distance) state
 plain_step stack ops.Write levels device target distance state plain = refl
 
--- what is beneath a leg, by what a match found
+-- what lies below a leg, once a match has named it
 pub beneath_as : (target : ResolvedTarget) (distance len : ℕ) (below other : Beneath) → below ≡ other → IsBeneath target distance len below → IsBeneath target distance len other
 beneath_as target distance len below other is on = rw is at on
 
--- those of a leg: sectors that lie elsewhere, zeros, or errors
+-- the step of a leg: sectors elsewhere, zeros, or errors
 leg_sector : (stack : Description) (op : Op) (levels device : ℕ) (target : ResolvedTarget) (distance n i : ℕ) (state : State) (row : ℕ → Below) → GoesOn target distance n row → i < n → target_step stack op levels device target state (distance + i) ≡ below_step stack op levels (row i) state
 leg_sector stack op levels device target distance n i state row on within =
     cc (plain_step stack op levels device target (distance + i) state on.plain, on.below i within)
@@ -90,7 +90,7 @@ pub leg_errors : (stack : Description) (op : Op) (levels device : ℕ) (target :
 leg_errors stack op levels device target distance n state on =
     steps_still (target_step stack op levels device target) state distance n Fails refl (λ i within. leg_sector stack op levels device target distance n i state (λ k. IsError) on within)
 
--- An origin's line
+-- The step of an origin's line
 
 origin_sector : (stack : Description) (op : Op) (levels device distance : ℕ) (origin : ResolvedOrigin) (state : State) → target_step stack op levels device (found.Origin origin) state distance ≡ served_sector stack op levels origin state distance
 origin_sector stack ops.Read levels device distance origin state = refl

@@ -1,4 +1,4 @@
--- How a read goes on from a sector of a device: by a line whose target has no state, by a snapshot's store or origin, or by an origin's line.
+-- Where a read continues from a sector of a device: below a line without state, in a snapshot's store or origin, or in what an origin's line names.
 use Rattle.dm_map.proofs.Prelude.{ℕ, Bool, true, false, cond, Option, Some, None, refl, sym, ◌∙◌, arith, Lower, ResolvedLine, ResolvedOrigin, ResolvedSnapshot, ResolvedTarget, Lies, IsError, below, below_line, below_target, found_at, has_state, Description, IsSound, read_below, store_sector, number_in, read_numbered, read_over, State, taken_at, origin_at, snapshot_at}
 use Rattle.dm_stack.specs.declared.lines.resolved_line.ResolvedTarget.TheVariants as founds
 use Rattle.dm_map.proofs.state.ResolvedLines.{line_origin, line_snapshot}
@@ -39,7 +39,7 @@ read_step_line stack state device sector lower at (Some line) sound is e = read_
 pub read_step : (stack : Description) (state : State) (device sector : ℕ) (lower : Lower) (at : ℕ) → IsSound stack → read_below stack state device sector ≡ Lies lower at → ReadStep stack state device sector lower at
 read_step stack state device sector lower at sound e = read_step_line stack state device sector lower at (found_at stack device sector) sound refl e
 
--- a step that no snapshot has a part in, nor an origin
+-- a read continues below a line without state
 pub record IsLineStep (stack : Description) (device sector : ℕ) (lower : Lower) (at : ℕ) : Type 0 where
   pub line : ResolvedLine
   pub is : found_at stack device sector ≡ Some line

@@ -1,4 +1,4 @@
--- The snapshots of an origin, served: what that settles, and how far a range of the origin's sectors needs no more of it. No claim plays a part here.
+-- Serving the snapshots of an origin: which chunks are settled afterwards, and how many sectors then need nothing more. Holds even if claims clash.
 use Rattle.dm_map.proofs.Prelude.{inl, inr, ℕ, zero, suc, true, List, [], length, get_or, take, drop, refl, sym, ap, ◌∙◌, arith, All, AllByRecursion, Result, Err, IsErr, cases_lt, append-nil, take-append-drop, take_more, All-get_or, ResolvedSnapshot, ResolvedOver, IsSnapshotSound, Description, device_len, IsSound, AreSettled, IsOver, serve, served_step, first_of, is_settled, take_chunk, State, Taken, taken_at, Step, keep, and_then, steps, IsLawful, SinkPast, WalkerView, IsWalked, AreInSnapshot, device_there}
 use Rattle.dm_map.proofs.walk.Chunks.{first_there, same_chunk}
 use Rattle.dm_map.proofs.state.ResolvedLines.{snapshot_sound}
@@ -11,7 +11,7 @@ use Rattle.std.specs.Prelude.{◌≡◌, ◌+◌, ◌-◌, ◌/◌, ◌%◌, ◌
 abbrev take_chunk_one : Description → ResolvedOver → (sector : ℕ) → State → Step
 take_chunk_one stack one sector state = take_chunk stack one.snapshot one.device (sector / one.snapshot.chunk) state
 
--- One after another
+-- Serving one snapshot after another
 
 pub serve_append : (stack : Description) (over more : List ResolvedOver) (sector : ℕ) (state : State) → serve stack (over ++ more) sector state ≡ and_then (serve stack over sector state) (λ after. serve stack more sector after)
 unfolding serve
@@ -24,7 +24,7 @@ serve_append stack (one ∷ over) more sector state =
 then_nothing : (step : Step) → and_then step (λ after. keep [] after) ≡ step
 then_nothing step = rw (append-nil step.units)
 
--- with one more
+-- serving one more snapshot
 pub serve_more : (stack : Description) (over : List ResolvedOver) (one : ResolvedOver) (sector : ℕ) (state : State) → serve stack (over ++ one ∷ []) sector state ≡ and_then (serve stack over sector state) (λ after. take_chunk_one stack one sector after)
 unfolding serve
 serve_more stack over one sector state =
@@ -32,7 +32,7 @@ serve_more stack over one sector state =
     serve_append stack over (one ∷ []) sector state
     ∙ and_then_at first (λ after. serve stack (one ∷ []) sector after) (λ after. take_chunk_one stack one sector after) (then_nothing (take_chunk_one stack one sector first.state))
 
--- What is settled
+-- What is settled by serving
 
 pub settled_on : (old new : State) (over : List ResolvedOver) (sector : ℕ) → KeepsSettled old new → AreSettled old over sector → AreSettled new over sector
 settled_on old new [] sector keeps settled = tt
@@ -46,7 +46,7 @@ pub settled_parts : (state : State) (over : List ResolvedOver) (one : ResolvedOv
 settled_parts state [] one sector settled = (tt, settled.0)
 settled_parts state (first ∷ over) one sector settled = let rest = settled_parts state over one sector settled.1 in ((settled.0, rest.0), rest.1)
 
--- once all are served
+-- after serving, every snapshot has settled the sector's chunk
 pub serve_settled : (stack : Description) (over : List ResolvedOver) (sector : ℕ) (state : State) → AllByRecursion (λ one. one.device < length state) over → AreSettled (serve stack over sector state).state over sector
 unfolding serve
 serve_settled stack [] sector state there = tt
@@ -59,20 +59,20 @@ serve_settled stack (one ∷ over) sector state there =
       serve_settled stack over sector first.state (rw count there.1),
     )
 
--- nothing is left to do
+-- serving does nothing if every snapshot has settled the chunk
 pub served_done : (stack : Description) (over : List ResolvedOver) (sector : ℕ) (state : State) → AreSettled state over sector → serve stack over sector state ≡ keep [] state
 unfolding serve
 served_done stack [] sector state settled = refl
 served_done stack (one ∷ over) sector state settled =
     cc (take_chunk_again stack one.snapshot one.device (sector / one.snapshot.chunk) state settled.0, served_done stack over sector state settled.1)
 
--- A range
+-- A range of sectors of an origin's device
 
--- a step of a sector that leaves settled what was
+-- the step of a sector leaves settled chunks settled
 abbrev pub StepsKeep : (State → ℕ → Step) → Type 0
 StepsKeep plain = (state : State) (sector : ℕ) → KeepsSettled state (plain state sector).state
 
--- where all are settled, the sectors of an origin's device are those of the origin
+-- if all chunks are settled, sectors of an origin's device are handled like those of the origin
 pub quiet : (stack : Description) (over : List ResolvedOver) (plain : State → ℕ → Step) (state : State) (sector n : ℕ) → StepsKeep plain → ((i : ℕ) → i < n → AreSettled state over (sector + i)) → steps (served_step stack over plain) state sector n ≡ steps plain state sector n
 quiet stack over plain state sector zero keeps each = refl
 quiet stack over plain state sector (suc n) keeps each =
@@ -81,7 +81,7 @@ quiet stack over plain state sector (suc n) keeps each =
     let first = plain state sector in
     cc (and_then_at first (λ after. steps (served_step stack over plain) after (suc sector) n) (λ after. steps plain after (suc sector) n) (quiet stack over plain first.state (suc sector) n keeps (λ i within. settled_on state first.state over (suc sector + i) (keeps state sector) (rw (let e : sector + suc i ≡ suc sector + i = omega arith in e) at (each (suc i) (omega (arith, within)))))))
 
--- as many sectors as are settled once the first one is served
+-- if serving the first sector settles the chunks of all these sectors, they are handled like those of the origin afterwards
 pub part : (stack : Description) (over : List ResolvedOver) (plain : State → ℕ → Step) (state : State) (sector n : ℕ) → StepsKeep plain → ((i : ℕ) → i < suc n → AreSettled (serve stack over sector state).state over (sector + i))
     → steps (served_step stack over plain) state sector (suc n) ≡ and_then (serve stack over sector state) (λ after. steps plain after sector (suc n))
 part stack over plain state sector n keeps each =
@@ -92,7 +92,7 @@ part stack over plain state sector n keeps each =
     (quiet stack over plain first.state (suc sector) n keeps (λ i within.
     settled_on served.state first.state over (suc sector + i) (keeps served.state sector) (rw (let e : sector + suc i ≡ suc sector + i = omega arith in e) at (each (suc i) (omega (arith, within)))))))
 
--- The sectors of one chunk are settled as its first one is
+-- The sectors of one chunk are settled if its first one is
 
 pub chunk_settled : (taken : Taken) (snapshot : ResolvedSnapshot) (sector n i : ℕ) → 0 < snapshot.chunk → n ≤ snapshot.chunk - sector % snapshot.chunk → i < n → is_settled taken (sector / snapshot.chunk) ≡ true → is_settled taken ((sector + i) / snapshot.chunk) ≡ true
 chunk_settled taken snapshot sector n i some most within settled =
@@ -107,7 +107,7 @@ chunk_more taken snapshot sector part n some most next each i within = elim (cas
       rw on at (chunk_settled taken snapshot (sector + part) n (i - part) some most (omega (arith, after, within)) next)
 ]
 
--- Snapshots of the stack
+-- The snapshots in an origin's list are devices of the stack
 
 pub over_at : (stack : Description) (len : ℕ) (over : List ResolvedOver) (i : ℕ) (one : ResolvedOver) → All (IsOver stack len) over → i < length over → one ≡ get_or over i one → IsOver stack len one
 over_at stack len over i one all within is = rw is (All-get_or (IsOver stack len) over i one within all)
@@ -115,13 +115,13 @@ over_at stack len over i one all within is = rw is (All-get_or (IsOver stack len
 pub over_sound : (stack : Description) (len : ℕ) (one : ResolvedOver) → IsSound stack → IsOver stack len one → IsSnapshotSound stack one.device 0 (device_len stack one.device) one.snapshot
 over_sound stack len one sound it = (snapshot_sound stack one.device one.snapshot sound it.is).soundly
 
--- and has the first sector of the chunk of a sector that it has
+-- if a snapshot has a sector, it has the first one of the sector's chunk
 pub chunk_there : (stack before : Description) (sector : ℕ) (one : ResolvedOver) → IsSound stack → before ≡ stack → IsOver stack (sector + 1) one → AreInSnapshot before one.device one.snapshot (first_of one.snapshot (sector / one.snapshot.chunk)) 1
 chunk_there stack before sector one sound same it =
     let here : AreInSnapshot stack one.device one.snapshot sector 1 = record { is = it.is; sound = over_sound stack (sector + 1) one sound it; inside = it.long } in
     rw same (first_there stack one.device sector 1 one.snapshot here (omega arith))
 
--- a state that fits has a table for each
+-- a state with a table for each device has one for each snapshot of an origin
 pub over_there : (stack : Description) (state : State) (len : ℕ) (over : List ResolvedOver) → length state ≡ length stack.devices → 0 < len → AllByRecursion (IsOver stack len) over → AllByRecursion (λ one. one.device < length state) over
 over_there stack state len [] count some all = tt
 over_there stack state len (one ∷ over) count some all =
@@ -129,9 +129,9 @@ over_there stack state len (one ∷ over) count some all =
     let there = device_there stack one.device 0 (omega (arith, long, some)) in
     (omega (arith, there, count), over_there stack state len over count some all.1)
 
--- A walk over the list
+-- The loop over an origin's list of snapshots
 
--- those before were served, and then one more
+-- the earlier snapshots were served, and one more is
 pub served_on : {S F : Type 0} {past : SinkPast S} → IsLawful past → (result : Result (Unit {0}) F) (old middle new : S) (before between after : WalkerView) (over : List ResolvedOver) (i sector : ℕ) (one : ResolvedOver) → i < length over → one ≡ get_or over i one
     → IsWalked past going_on old middle before between (serve before.stack (take i over) sector before.state) 0 → IsWalked past result middle new between after (take_chunk_one between.stack one sector between.state) 0
     → IsWalked past result old new before after (serve before.stack (take (i + 1) over) sector before.state) 0
@@ -143,7 +143,7 @@ served_on lawful result old middle new before between after over i sector one wi
     walked_as (cc (serve_more before.stack (take i over) one sector before.state))
     (walked_then lawful (λ later. take_chunk_one before.stack one sector later) here (let e : 0 ≤ 0 = omega arith in e) so_far next)
 
--- or the sink failed at it
+-- the sink failed while this snapshot was served
 pub served_cut : {S F : Type 0} (past : SinkPast S) (fault : F) (result : Result (Unit {0}) F) (old new : S) (before after : WalkerView) (over : List ResolvedOver) (i sector : ℕ) → IsErr result
     → IsWalked {R = Unit {0}} past (Err fault) old new before after (serve before.stack (take i over) sector before.state) 0 → IsWalked past result old new before after (serve before.stack over sector before.state) 0
 served_cut past fault result old new before after over i sector is_err walk =

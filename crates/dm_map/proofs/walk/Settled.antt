@@ -1,11 +1,11 @@
--- What is settled stays so, whatever is written.
+-- Settled chunks stay settled, whatever is written.
 use Rattle.dm_map.proofs.Prelude.{inl, inr, ℕ, zero, suc, Bool, true, false, cond, not, List, [], Option, Some, None, length, refl, ap, ◌∙◌, is_some, cases_eq, cases_lt, length-set, set_past, Lower, Device, Disk, ResolvedLine, ResolvedOver, ResolvedSnapshot, ResolvedTarget, Below, Lies, below_plain, found_at, Description, is_ro_at, write_line, write_step, write_target, by_below, serve, number_in, is_refused, is_settled, take_chunk, unit_in_store, lost, put, with_chunk, State, Taken, taken_at, Step, keep, and_then, Drops, Fails}
 use Rattle.dm_stack.specs.declared.lines.resolved_line.ResolvedTarget.TheVariants as founds
 use Rattle.dm_map.proofs.state.Numbers.{number_kept}
 use Rattle.dm_map.proofs.walk.ChunkTaking.{ChunkOutcome, Settled, Took, Lost, chunk_outcome, taken_other, taken_same}
 use Rattle.std.specs.Prelude.{◌≡◌, ◌-◌, ◌/◌, ◌∷◌, ◌++◌, ◌||◌}
 
--- as many tables, and what was settled in the one is settled in the other
+-- the new state has as many entries as the old, and every chunk settled in the old is settled in the new
 pub record KeepsSettled (old new : State) : Type 0 where
   pub count : length new ≡ length old
   pub settled : (device chunk : ℕ) → is_settled (taken_at old device) chunk ≡ true → is_settled (taken_at new device) chunk ≡ true
@@ -16,7 +16,7 @@ keeps_same state = record { count = refl; settled = λ device chunk is. is }
 pub keeps_then : (first second third : State) → KeepsSettled first second → KeepsSettled second third → KeepsSettled first third
 keeps_then first second third one two = record { count = two.count ∙ one.count; settled = λ device chunk is. two.settled device chunk (one.settled device chunk is) }
 
--- A chunk that is taken
+-- Taking a chunk keeps chunks settled
 
 keeps_put : (state : State) (device : ℕ) (taken : Taken) → ((chunk : ℕ) → is_settled (taken_at state device) chunk ≡ true → is_settled taken chunk ≡ true) → KeepsSettled state (put state device taken)
 keeps_put state device taken each = record {
@@ -47,7 +47,7 @@ keeps_outcome state device chunk step (Lost is) = rw is (keeps_put state device 
 pub take_chunk_keeps : (stack : Description) (snapshot : ResolvedSnapshot) (device chunk : ℕ) (state : State) → KeepsSettled state (take_chunk stack snapshot device chunk state).state
 take_chunk_keeps stack snapshot device chunk state = keeps_outcome state device chunk (take_chunk stack snapshot device chunk state) (chunk_outcome stack snapshot device chunk state)
 
--- and so where many are
+-- serving snapshots keeps chunks settled
 pub serve_keeps : (stack : Description) (over : List ResolvedOver) (sector : ℕ) (state : State) → KeepsSettled state (serve stack over sector state).state
 unfolding serve
 serve_keeps stack [] sector state = keeps_same state
@@ -55,7 +55,7 @@ serve_keeps stack (one ∷ over) sector state =
     let first = take_chunk stack one.snapshot one.device (sector / one.snapshot.chunk) state in
     keeps_then state first.state (serve stack over sector first.state).state (take_chunk_keeps stack one.snapshot one.device (sector / one.snapshot.chunk) state) (serve_keeps stack over sector first.state)
 
--- A write
+-- A write keeps chunks settled
 
 Appends : (Lower → State → ℕ → Step) → Type 0
 Appends next = (to : Lower) (state : State) (sector : ℕ) → KeepsSettled state (next to state sector).state
@@ -65,7 +65,7 @@ unfolding Appends
 below_keeps (Lies to sector) state next keeps = keeps to state sector
 below_keeps b state next keeps = keeps_same state
 
--- a step that may fail before it begins
+-- a step that may fail before it does anything
 fails_or_keeps : (failing : Bool) (state : State) (step : Step) → KeepsSettled state step.state → KeepsSettled state (cond failing (keep (Fails ∷ []) state) step).state
 fails_or_keeps true state step keeps = keeps_same state
 fails_or_keeps false state step keeps = keeps
@@ -84,7 +84,7 @@ line_keeps : (stack : Description) (state : State) (device : ℕ) (line : Option
 line_keeps stack state device None sector next keeps = keeps_same state
 line_keeps stack state device (Some line) sector next keeps = target_keeps stack state device line.target (sector - line.start) next keeps
 
--- whatever is written, through any number of levels
+-- a write through any number of levels keeps chunks settled
 pub write_keeps_settled : (stack : Description) (levels : ℕ) (lower : Lower) (state : State) (sector : ℕ) → KeepsSettled state (write_step stack levels lower state sector).state
 unfolding write_step Appends
 write_keeps_settled stack levels (Disk disk) state sector = keeps_same state

@@ -1,4 +1,4 @@
--- What lies below a sector of a line whose target has no state is a sector of one of the line's spans. Stripes have a span for each column, any other such target at most one.
+-- Below a sector of a line without state lies a sector of one of the line's spans. Stripes have a span for each column; any other such target has one or none.
 use Rattle.dm_map.proofs.Prelude.{ℕ, false, List, Option, Some, None, length, refl, sym, ap, ◌∙◌, arith, map, option_map, slice_get, length-map, slice_get-map, mul-div_cancel_left, Target, Own, ResolvedColumn, ResolvedSnapshot, ResolvedTarget, Lower, Span, column_span, target_spans, Below, Lies, AreStripes, IsTargetSound, below_column, below_plain, below_target, column_of, resolved_columns, resolved_target, has_state, in_column, span_end, Description, lower_len, lower_of, in_column_room}
 use Rattle.dm_table.specs.declared.tables.table.Column.{Column}
 use Rattle.dm_table.specs.declared.tables.table.Target.TheVariants as targets
@@ -6,7 +6,7 @@ use Rattle.dm_stack.specs.declared.lines.resolved_line.ResolvedTarget.TheVariant
 use Rattle.dm_map.proofs.state.Numbers.{stripe_back}
 use Rattle.std.specs.Prelude.{◌≡◌, ◌+◌, ◌/◌, ◌%◌, ◌<◌}
 
--- A target without a state
+-- Targets without state
 
 pub lower_is : (a b : Lower) (s t : ℕ) → Lies a s ≡ Lies b t → a ≡ b
 lower_is a b s t e = cc
@@ -14,30 +14,30 @@ lower_is a b s t e = cc
 pub sector_is : (a b : Lower) (s t : ℕ) → Lies a s ≡ Lies b t → s ≡ t
 sector_is a b s t e = cc
 
--- what lies below is the same whatever is said of snapshots
+-- what lies below a sector of a line without state doesn't depend on snapshots
 pub below_is : (over : ResolvedSnapshot → ℕ → Below) (target : ResolvedTarget) (distance : ℕ) → has_state target ≡ false → below_target over target distance ≡ below_plain target distance
 below_is over (founds.Snapshot snapshot) distance plain = absurd cc
 below_is over (founds.Origin origin) distance plain = absurd cc
 below_is over target distance plain = refl
 
--- the sector at a distance lies there
+-- below the sector at this distance into a line without state lies this lower sector
 pub record IsPlainStep (target : ResolvedTarget) (distance : ℕ) (lower : Lower) (at : ℕ) : Type 0 where
   pub plain : has_state target ≡ false
   pub lies : below_plain target distance ≡ Lies lower at
 
--- The span of a sector
+-- The span below a sector
 
--- which of the line's spans has the sector at a distance from its start
+-- the index of the span that a sector at this distance into the line lies in
 abbrev pub span_index : ResolvedTarget → (distance : ℕ) → ℕ
 span_index (founds.Striped chunk_size columns) distance = column_of chunk_size (length columns) distance
 span_index _ distance = 0
 
--- and which of the span's sectors that is
+-- the sector's distance into its span
 abbrev pub span_distance : ResolvedTarget → (distance : ℕ) → ℕ
 span_distance (founds.Striped chunk_size columns) distance = in_column chunk_size (length columns) distance
 span_distance _ distance = distance
 
--- one span and one sector of it are one sector of the line
+-- two sectors of a line in the same span at the same distance are equal
 pub distance_one : (stack : Description) (device start len : ℕ) (target : ResolvedTarget) (d e : ℕ) → IsTargetSound stack device start len target → span_index target d ≡ span_index target e → span_distance target d ≡ span_distance target e → d ≡ e
 distance_one stack device start len (founds.Striped chunk_size columns) d e sound same within =
     let stripes : AreStripes stack len chunk_size columns = sound in
@@ -45,17 +45,17 @@ distance_one stack device start len (founds.Striped chunk_size columns) d e soun
     cc (stripe_back chunk_size n d stripes.chunk_some, stripe_back chunk_size n e stripes.chunk_some)
 distance_one stack device start len target d e sound same within = within
 
--- a sector of a span that is there
+-- the span exists, and the lower sector is at this distance into it
 abbrev pub IsIn : Description → Option Span → (distance : ℕ) → Lower → (at : ℕ) → Type 0
 IsIn stack (Some span) distance lower at = (lower_of stack span.to ≡ lower) × (at ≡ span.offset + distance) × (span.kind ≡ Own)
 IsIn stack None distance lower at = ⊥
 
--- it is before the end of the span
+-- the lower sector is before the end of the span
 abbrev pub IsBefore : Description → Option Span → (at : ℕ) → Type 0
 IsBefore stack (Some span) at = at < span_end (lower_len stack (lower_of stack span.to)) span.offset span.len
 IsBefore stack None at = ⊥
 
--- Stripes
+-- Striped lines
 
 record IsColumn (stack : Description) (columns : List Column) (i distance : ℕ) (lower : Lower) (at : ℕ) : Type 0 where
   column : Column
@@ -94,7 +94,7 @@ striped_before stack len chunk_size distance columns lower at stripes inside e =
     let rest : distance % chunk_size < chunk_size = omega (arith, some) in
     rw (column_span_at stack columns (len / length columns) (column_of chunk_size count distance) (in_column chunk_size count distance) lower at column) (omega (arith, room, share, rest, column.sector))
 
--- Any target without a state
+-- Any target without state
 
 plain_in : (stack : Description) (len : ℕ) (target : Target) (distance : ℕ) (lower : Lower) (at : ℕ) → below_plain (resolved_target stack target) distance ≡ Lies lower at
     → IsIn stack (slice_get (target_spans len target) (span_index (resolved_target stack target) distance)) (span_distance (resolved_target stack target) distance) lower at
@@ -108,7 +108,7 @@ pub plain_before : (stack : Description) (device start len : ℕ) (target : Targ
 plain_before stack device start len (targets.Striped chunk_size columns) distance lower at sound inside e = striped_before stack len chunk_size distance columns lower at sound inside e
 plain_before stack device start len target distance lower at sound inside e = first_of (cc, grind arith)
 
--- the span of a sector
+-- the lower sector is at this distance into the span with this index
 pub record IsInSpan (stack : Description) (spans : List Span) (index distance : ℕ) (lower : Lower) (at : ℕ) : Type 0 where
   pub span : Span
   pub is : slice_get spans index ≡ Some span

@@ -1,4 +1,4 @@
--- A store: each sector of it is read at its home, whatever the state.
+-- Each sector of an exception store is read at its home, whatever the state.
 use Rattle.dm_map.proofs.Prelude.{ℕ, zero, suc, Bool, true, false, List, [], Option, Some, None, length, refl, sym, ◌∙◌, arith, not, option_map, AllByRecursion, list_all, and_parts, Line, Target, ResolvedLine, ResolvedSnapshot, Lower, Device, Disk, Span, spans, target_spans, Below, Lies, IsError, below, below_line, below_plain, below_target, column_of, found_at, resolved_columns, resolved_line, resolved_target, has_state, holds, line_of, IsTargetSound, Description, device_len, is_ro_at, lines_at, lower_len, lower_of, IsSound, is_plain, is_store_to, IsStore, HoldsSoundly, found, sector_found, there, Ground, home, home_to, read_unit, read, row, read_over, State, taken_at, ground_unit, ReadOf, units_in, plain_inside, device_there, at_index}
 use Rattle.dm_table.specs.declared.tables.table.Target.TheVariants as targets
 use Rattle.dm_stack.specs.declared.checks.graph.TheConstants.{MOST_DEPTH}
@@ -9,7 +9,7 @@ use Rattle.std.specs.Prelude.{◌≡◌, ◌+◌, ◌-◌, ◌<◌, ◌≤◌, �
 
 -- What lies below a sector of a store
 
--- a sector of one that is a level less deep, whatever is said of snapshots
+-- a sector of another store, one level down, lies below, whatever snapshots hold
 pub record LiesInStore (stack : Description) (levels : ℕ) (below : (ResolvedSnapshot → ℕ → Below) → Below) : Type 0 where
   pub to : Lower
   pub at : ℕ
@@ -21,7 +21,7 @@ each_true : {X : Type 0} (test : X → Bool) (xs : List X) → list_all test xs 
 each_true test [] all = tt
 each_true test (x ∷ xs) all = let parts = and_parts (test x) (list_all test xs) all in (parts.0, each_true test xs parts.1)
 
--- whether a sector of something lies below
+-- a sector of a device or disk lies below, not zeros or an error
 abbrev goes_on : Below → Bool
 goes_on (Lies to sector) = true
 goes_on _ = false
@@ -35,7 +35,7 @@ on_it : (b : Below) → goes_on b ≡ true → GoesOn b
 on_it (Lies to at) goes = record { to = to; at = at; is = refl }
 on_it _ goes = absurd cc
 
--- a line that a store may be made of has no state, and a sector of what it names below each of its own
+-- a line in a store has no state, and below each of its sectors lies a sector of what it names
 plain_state : (stack : Description) (target : Target) → is_plain target ≡ true → has_state (resolved_target stack target) ≡ false
 plain_state stack (targets.Snapshot origin store kind chunk_size) plain = absurd cc
 plain_state stack (targets.Origin origin) plain = absurd cc
@@ -91,7 +91,7 @@ below_store stack levels device sector sound store inside =
     below_held stack levels device sector (line_of (lines_at stack device) sector) (each_true (λ l. is_plain l.target && list_all (λ span. is_store_to stack levels (lower_of stack span.to)) (spans l)) (lines_at stack device) parts.1) refl
     (found_on stack device sector (found_at stack device sector) refl sound inside)
 
--- its lines have no state
+-- The lines of a store have no state
 
 state_held : (stack : Description) (levels device sector : ℕ) (line : Option Line) (held : ResolvedLine) → AllByRecursion (λ l. (is_plain l.target && list_all (λ span. is_store_to stack levels (lower_of stack span.to)) (spans l)) ≡ true) (lines_at stack device)
     → line_of (lines_at stack device) sector ≡ line → option_map (resolved_line stack) line ≡ Some held → has_state held.target ≡ false
@@ -108,7 +108,7 @@ store_line stack levels device sector held store is =
     let parts = and_parts (not (is_ro_at stack device)) (list_all (λ l. is_plain l.target && list_all (λ span. is_store_to stack levels (lower_of stack span.to)) (spans l)) (lines_at stack device)) store in
     state_held stack levels device sector (line_of (lines_at stack device) sector) held (each_true (λ l. is_plain l.target && list_all (λ span. is_store_to stack levels (lower_of stack span.to)) (spans l)) (lines_at stack device) parts.1) refl is
 
--- The reads of a store
+-- Reads of a store's sectors
 
 pub store_read : (stack : Description) (state : State) (levels : ℕ) (lower : Lower) (sector : ℕ) → IsSound stack → is_store_to stack levels lower ≡ true → sector < lower_len stack lower
     → read_unit stack state levels lower sector ≡ ReadOf (home_to stack levels lower sector).disk (home_to stack levels lower sector).sector
@@ -119,14 +119,14 @@ store_read stack state (suc levels) (Device device) sector sound store inside =
     let b = below_store stack levels device sector sound store inside in
     rw (b.is (read_over (taken_at state device)), store_read stack state levels b.to b.at sound b.store b.inside, b.is (λ snapshot sector. IsError))
 
--- so the reads of sectors in a row are those of their homes
+-- reads of consecutive sectors of a store are reads of their homes
 pub store_row : (stack : Description) (state : State) (store : Lower) (sector n : ℕ) → IsSound stack → IsStore stack store → sector + n ≤ lower_len stack store
     → row (λ s. ReadOf (home stack store s).disk (home stack store s).sector) sector n ≡ row (read stack state store) sector n
 store_row stack state store sector n sound is inside =
     row_same (λ s. ReadOf (home stack store s).disk (home stack store s).sector) (read stack state store) sector sector n
     (λ i within. sym (store_read stack state MOST_DEPTH store (sector + i) sound is (omega (arith, inside, within))))
 
--- a row of reads of a store goes on from a sector of a disk
+-- the first stretch of a store's sectors lies on a disk
 pub not_on_disk : (stack : Description) (state : State) (store : Lower) (sector n : ℕ) (ground : Ground) → IsSound stack → IsStore stack store → sector + n ≤ lower_len stack store → 1 ≤ n → row (read stack state store) sector n ≡ units_in (ground_unit ground) n
     → ((disk start : ℕ) → ground ≡ grounds.Disk disk start → ⊥) → ⊥
 not_on_disk stack state store sector zero ground sound is inside some reads other = omega (arith, some)

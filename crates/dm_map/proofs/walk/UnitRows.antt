@@ -1,20 +1,20 @@
--- Units in a row, and the stretches on which they go on.
+-- Units of consecutive sectors, and the stretches in which each continues the one before.
 use Rattle.dm_map.proofs.Prelude.{ℕ, zero, suc, Bool, true, false, List, [], refl, sym, ap, ◌∙◌, arith, Lower, Description, Home, GoOn, read_unit, IsLawful, OfBeginning, SinkPast, row, read, is_error, any_error, copy_to, write_to, State, Step, keep, Ground, ground_unit, unit_at, BlockUnit, ReadOf, WriteOf, Zeros, Fails, next_unit, units_in, range_step}
 use Rattle.dm_table.specs.declared.requests.request.Op.TheVariants as ops
 use Rattle.dm_stack.specs.declared.checks.graph.TheConstants.{MOST_DEPTH}
 use Rattle.dm_map.specs.declared.walk.stretch.Ground.TheVariants as grounds
 use Rattle.std.specs.Prelude.{◌≡◌, ◌+◌, ◌-◌, ◌<◌, ◌≤◌, ◌∷◌, ◌++◌, ◌||◌}
 
--- Rows
+-- Lists of values for consecutive sectors
 
--- a row in two parts
+-- the list for two ranges in a row
 pub row-append : {X : Type 0} (f : ℕ → X) (sector m n : ℕ) → row f sector (m + n) ≡ row f sector m ++ row f (sector + m) n
 row-append f sector zero n = let e : 0 + n ≡ n = omega arith in let k : sector + 0 ≡ sector = omega arith in rw (e, k) refl
 row-append {X} f sector (suc m) n =
     let e : suc m + n ≡ suc (m + n) = omega arith in let k : sector + suc m ≡ suc sector + m = omega arith in
     rw (e, k) (cc (row-append f (suc sector) m n))
 
--- two rows that are the same sector by sector
+-- two lists that are equal sector by sector
 pub row_same : {X : Type 0} (f h : ℕ → X) (s t n : ℕ) → ((i : ℕ) → i < n → f (s + i) ≡ h (t + i)) → row f s n ≡ row h t n
 row_same f h s t zero each = refl
 row_same {X} f h s t (suc n) each =
@@ -23,20 +23,20 @@ row_same {X} f h s t (suc n) each =
     ap f (let e : suc s + i ≡ s + suc i = omega arith in e) ∙ each (suc i) (omega (arith, within)) ∙ ap h (let e : t + suc i ≡ suc t + i = omega arith in e)) in
     cc
 
--- the read of a range is the row of its reads
+-- the step of a read is the list of its units
 pub read_row : (stack : Description) (levels : ℕ) (lower : Lower) (state : State) (sector n : ℕ) → range_step stack ops.Read levels lower state sector n ≡ keep (row (read_unit stack state levels lower) sector n) state
 read_row stack levels lower state sector zero = refl
 read_row stack levels lower state sector (suc n) =
     cc (read_row stack levels lower state (suc sector) n)
 
--- of a first stretch, the reads go on from the ground
+-- the units of a first stretch are those of its ground
 pub first_reads : (stack : Description) (state : State) (lower : Lower) (sector n : ℕ) (unit : BlockUnit) → range_step stack ops.Read MOST_DEPTH lower state sector n ≡ keep (units_in unit n) state → row (read stack state lower) sector n ≡ units_in unit n
 first_reads stack state lower sector n unit is = ap (λ (step : Step). step.units) (sym (read_row stack MOST_DEPTH lower state sector n) ∙ is)
 
 first_of_units : (us : List BlockUnit) (u v : BlockUnit) (vs : List BlockUnit) → u ∷ us ≡ v ∷ vs → (u ≡ v) × (us ≡ vs)
 first_of_units us u v vs same = (cc, cc)
 
--- and so do fewer of them
+-- the units of the first sectors of a stretch are those of its ground
 pub row_front : (f : ℕ → BlockUnit) (sector m n : ℕ) (unit : BlockUnit) → row f sector m ≡ units_in unit m → n ≤ m → row f sector n ≡ units_in unit n
 row_front f sector m zero unit same few = refl
 row_front f sector zero (suc n) unit same few = absurd (omega (arith, few))
@@ -44,7 +44,7 @@ row_front f sector (suc m) (suc n) unit same few =
     let parts = first_of_units (row f (suc sector) m) (f sector) unit (units_in (next_unit unit) m) same in
     cc (row_front f (suc sector) m n (next_unit unit) parts.1 (omega (arith, few)))
 
--- What a sink took and left of a row
+-- What a sink received of consecutive sectors, and what it failed at
 
 pub took_row : {S : Type 0} {past : SinkPast S} → IsLawful past → (a b c : S) (f : ℕ → BlockUnit) (sector m n : ℕ) (units : List BlockUnit) → row f (sector + m) n ≡ units → past.took a (row f sector m) b → past.took b units c → past.took a (row f sector (m + n)) c
 took_row {past} lawful a b c f sector m n units is first second =
@@ -60,7 +60,7 @@ left_row lawful a b c f sector m n len units within is first second =
       holds = lawful.left a b c (row f sector m) units first second;
     }
 
--- Errors
+-- Errors among units
 
 any_error-append : (us vs : List BlockUnit) → any_error (us ++ vs) ≡ (any_error us || any_error vs)
 any_error-append [] vs = refl
@@ -70,20 +70,20 @@ any_error-append (u ∷ us) vs = rw (any_error-append us vs) (or_assoc (is_error
     or_assoc true b c = refl
     or_assoc false b c = refl
 
--- units that go on are errors where the first is one
+-- a run of units has errors exactly if its first unit is one
 units_errors : (unit : BlockUnit) (n : ℕ) → any_error (units_in unit (suc n)) ≡ is_error unit
 units_errors Fails n = refl
 units_errors unit zero = refl
 units_errors unit (suc n) = units_errors (next_unit unit) n
 
--- a row that begins with units that go on has an error where the first is one, or where the rest has one
+-- a list that starts with a run of units has an error if the first unit is one, or the rest has one
 pub errors_on : (f : ℕ → BlockUnit) (sector n len : ℕ) (unit : BlockUnit) → 1 ≤ n → n ≤ len → row f sector n ≡ units_in unit n → any_error (row f sector len) ≡ (is_error unit || any_error (row f (sector + n) (len - n)))
 errors_on f sector zero len unit some within is = absurd (omega (arith, some))
 errors_on f sector (suc n) len unit some within is =
     let whole : len ≡ suc n + (len - suc n) = omega (arith, within) in let rest = row f (sector + suc n) (len - suc n) in
     cc (row-append f sector (suc n) (len - suc n), any_error-append (row f sector (suc n)) rest, units_errors unit n)
 
--- Copies and writes, by where their units go on
+-- Copies and writes, by how far their units continue
 
 go_on_here : (homes : ℕ → Home) (sector disk start n : ℕ) → GoOn homes sector disk start (suc n) → homes sector ≡ record { disk = disk; sector = start }
 go_on_here homes sector disk start n each =
@@ -98,7 +98,7 @@ write_row homes sector disk start zero each = refl
 write_row homes sector disk start (suc n) each =
     cc (go_on_here homes sector disk start n each, write_row homes (suc sector) disk (suc start) n (go_on_later homes sector disk start n each))
 
--- a copy goes on where both sides do
+-- copies continue as long as both sides do
 copy_goes_on : (unit : BlockUnit) (disk sector : ℕ) → copy_to (next_unit unit) (record { disk = disk; sector = suc sector }) ≡ next_unit (copy_to unit (record { disk = disk; sector = sector }))
 copy_goes_on (ReadOf from at) disk sector = refl
 copy_goes_on unit disk sector = refl
@@ -110,7 +110,7 @@ copy_row reads homes sector (suc n) unit disk start same each =
     let parts = first_of_units (row reads (suc sector) n) (reads sector) unit (units_in (next_unit unit) n) same in
     cc (go_on_here homes sector disk start n each, copy_row reads homes (suc sector) n (next_unit unit) disk (suc start) parts.1 (go_on_later homes sector disk start n each), copy_goes_on unit disk start)
 
--- a row of reads of homes that goes on from one of a disk: so do the homes
+-- if the reads of homes continue on a disk, so do the homes
 pub homes_go_on : (homes : ℕ → Home) (sector disk start n : ℕ) → row (λ s. ReadOf (homes s).disk (homes s).sector) sector n ≡ units_in (ReadOf disk start) n → GoOn homes sector disk start n
 homes_go_on homes sector disk start zero same i within = absurd (omega (arith, within))
 homes_go_on homes sector disk start (suc n) same zero within =
@@ -127,7 +127,7 @@ homes_go_on homes sector disk start (suc n) same (suc i) within =
     let parts = first_of_units (row (λ s. ReadOf (homes s).disk (homes s).sector) (suc sector) n) (ReadOf (homes sector).disk (homes sector).sector) (ReadOf disk start) (units_in (ReadOf disk (suc start)) n) same in
     cc ((let e : sector + suc i ≡ suc sector + i = omega arith in e), homes_go_on homes (suc sector) disk (suc start) n parts.1 i (omega (arith, within)), (let e : suc start + i ≡ start + suc i = omega arith in e))
 
--- a row of reads that goes on from a ground, sector by sector
+-- the units of a stretch, sector by sector
 pub reads_at : (f : ℕ → BlockUnit) (sector n : ℕ) (ground : Ground) → row f sector n ≡ units_in (ground_unit ground) n → (i : ℕ) → i < n → f (sector + i) ≡ unit_at ground i
 reads_at f sector zero ground same i within = absurd (omega (arith, within))
 reads_at f sector (suc n) (grounds.Disk disk start) same zero within =

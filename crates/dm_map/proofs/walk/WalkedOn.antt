@@ -1,18 +1,18 @@
--- A row of sectors that is walked part by part.
+-- Walks of consecutive sectors, part by part.
 use Rattle.dm_map.proofs.Prelude.{ℕ, zero, suc, false, List, [], append_assoc, refl, sym, ap, subst, ◌∙◌, arith, IsErr, Result, Ok, Err, Op, Read, ResolvedTarget, Lower, Description, IsSound, AreAdded, IsHanded, IsLawful, OfBeginning, SinkPast, State, IsMapped, Mapping, range_mapping, target_mapping, is_same_path, stretches, Step, keep, steps, BlockUnit, StackState, WalkerView, stack_state, IsWalked}
 use Rattle.dm_map.proofs.walk.Paths.{searches_more, searches_on}
 use Rattle.dm_map.proofs.walk.Rows.{added_then, none_added, steps-append, walked_as, walked_piece}
 use Rattle.std.specs.Prelude.{◌≡◌, ◌+◌, ◌-◌, ◌*◌, ◌<◌, ◌≤◌, ◌++◌}
 
--- a walk so far, in which the sink did not fail
+-- the result of a walk so far, at which the sink hasn't failed
 abbrev pub going_on : Result (Unit {0}) (Unit {0})
 going_on = Ok tt
 
--- one that has not begun
+-- a walk before its first part
 pub walked_none : {S : Type 0} {past : SinkPast S} {sink : S} {walk : WalkerView} → IsLawful past → IsWalked past going_on sink sink walk walk (keep [] walk.state) 0
 walked_none {sink} {walk} lawful = record { took = lawful.nothing sink; state = refl; kept = refl; room = omega arith; left = tt; faults = omega arith; stack = refl; looked = none_added walk.looked }
 
--- a sink that took the first part of a row, and then the next one
+-- the sink received the first part, and then the next one
 took_on : {S : Type 0} (past : SinkPast S) → IsLawful past → (a b c : S) (step : State → ℕ → Step) (state after : State) (sector m n : ℕ) → after ≡ (steps step state sector m).state → past.took a (steps step state sector m).units b → past.took b (steps step after (sector + m) n).units c
     → past.took a (steps step state sector (m + n)).units c
 took_on past lawful a b c step state after sector m n is first second =
@@ -23,7 +23,7 @@ state_on : (step : State → ℕ → Step) (state after last : State) (sector m 
 state_on step state after last sector m n is second =
     cc (steps-append step state sector m n)
 
--- or it failed in the next one
+-- the sink failed during the next part
 left_on : {S : Type 0} (past : SinkPast S) → IsLawful past → (a b c : S) (step : State → ℕ → Step) (state after : State) (sector m n len : ℕ) → m + n ≤ len → after ≡ (steps step state sector m).state → past.took a (steps step state sector m).units b
     → OfBeginning past.left b (steps step after (sector + m) n).units c → OfBeginning past.left a (steps step state sector len).units c
 left_on past lawful a b c step state after sector m n len within is first second =
@@ -37,7 +37,7 @@ left_on past lawful a b c step state after sector m n len within is first second
       holds = lawful.left a b c _ _ first cut.holds;
     }
 
--- A read keeps the state
+-- Reads leave the state as it is
 
 steps_kept : (step : State → ℕ → Step) (state : State) (sector n : ℕ) → ((after : State) (i : ℕ) → (step after i).state ≡ after) → (steps step state sector n).state ≡ state
 steps_kept step state sector zero each = refl
@@ -52,20 +52,20 @@ range_keeps op levels lower is stack state sector = rw is refl
 pub target_keeps : (op : Op) (levels device start : ℕ) (target : ResolvedTarget) → Keeps (target_mapping op levels device start target)
 target_keeps op levels device start target is stack state distance = rw is refl
 
--- Sectors that are mapped in parts
+-- Sectors that are mapped part by part
 
--- a sector has another path than the one before it
+-- the sector has another path than the one before it
 abbrev pub Turns : Mapping → WalkerView → (at : ℕ) → Type 0
 Turns mapping walk at = is_same_path (mapping.path walk.stack walk.state (at - 1)) (mapping.path walk.stack walk.state at) ≡ false
 
--- of len sectors from the first one on as many are left, from this one on, and those before it were mapped
+-- of len sectors from the first one on, rest are left, from this one on, and those before were mapped
 pub record IsMappedTo {S : Type 0} (past : SinkPast S) (old new : S) (before after : WalkerView) (mapping : Mapping) (first len at rest : ℕ) : Type 0 where
   pub mapped : IsMapped past going_on old new before after mapping first (len - rest)
   pub within : rest ≤ len
   pub position : at + rest ≡ first + len
   pub turns : mapping.op ≡ Read → 0 < len - rest → 0 < rest → Turns mapping before at
 
--- none of them
+-- before any sector is mapped
 pub mapped_none : {S : Type 0} {past : SinkPast S} {sink : S} {walk : WalkerView} {mapping : Mapping} {first len : ℕ} → IsLawful past → mapping.found ≡ 0 → IsMappedTo past sink sink walk walk mapping first len first len
 mapped_none {past} {sink} {walk} {mapping} {first} {len} lawful none =
     let nothing : IsMapped past going_on sink sink walk walk mapping first 0 = record { walked = walked_none lawful; bounded = λ is sound. omega (arith, none) } in
@@ -76,18 +76,18 @@ mapped_none {past} {sink} {walk} {mapping} {first} {len} lawful none =
       turns = λ is some more. absurd (omega (arith, some));
     }
 
--- a piece without a disk
+-- mapping with one piece that touches no disk
 pub mapped_handed : {S F : Type 0} {past : SinkPast S} {result : Result (Unit {0}) F} {old new : S} {walk : WalkerView} {units : List BlockUnit} {first len : ℕ} (mapping : Mapping) → mapping.found ≡ 0
     → keep units walk.state ≡ steps (mapping.step walk.stack) walk.state first len → IsHanded past result old new units len → IsMapped past result old new walk walk mapping first len
 mapped_handed {walk} mapping none same p = record { walked = walked_piece same (omega arith) p; bounded = λ is sound. omega (arith, none) }
 
--- the step of the next ones
+-- the step of the next sectors
 next_step : {S : Type 0} {past : SinkPast S} {old middle : S} {before between : WalkerView} {mapping : Mapping} {first len at rest : ℕ} (n : ℕ) → IsMappedTo past old middle before between mapping first len at rest
     → steps (mapping.step between.stack) between.state at n ≡ steps (mapping.step before.stack) between.state (first + (len - rest)) n
 next_step {before} {between} {mapping} {first} {len} {at} {rest} n one =
     cc (let e : at ≡ first + (len - rest) = omega (arith, one.position, one.within) in e)
 
--- reads change nothing
+-- reads so far changed nothing
 pub mapped_still : {S : Type 0} {past : SinkPast S} {old middle : S} {before between : WalkerView} {mapping : Mapping} {first len at rest : ℕ} → Keeps mapping → IsMappedTo past old middle before between mapping first len at rest
     → mapping.op ≡ Read → stack_state between ≡ stack_state before
 mapped_still {before} {between} {mapping} {first} {len} {at} {rest} keeps one is =
@@ -95,7 +95,7 @@ mapped_still {before} {between} {mapping} {first} {len} {at} {rest} keeps one is
     let state : between.state ≡ before.state = walked.state ∙ steps_kept (mapping.step before.stack) before.state first (len - rest) (keeps is before.stack) in
     ap (λ (s : Description). record { stack = s; state = between.state }) walked.stack ∙ ap (λ (s : State). record { stack = before.stack; state = s }) state
 
--- the searches of those so far and of the next ones
+-- the searches of the sectors so far and of the next ones
 searches_next : {S F : Type 0} {past : SinkPast S} {result : Result (Unit {0}) F} {old middle new : S} {before between after : WalkerView} {mapping : Mapping} {found first len at rest n : ℕ}
     → Keeps mapping → 1 ≤ n → n ≤ rest → IsMappedTo past old middle before between mapping first len at rest → IsMapped past result middle new between after (record mapping { found = found }) at n
     → mapping.op ≡ Read → IsSound before.stack → after.looked.searches + found ≤ before.looked.searches + mapping.depth before.stack * stretches (mapping.path before.stack before.state) first (len - rest + n)
@@ -110,7 +110,7 @@ searches_next {before} {between} {after} {mapping} {found} {first} {len} {at} {r
     (λ later. rw position at (one.turns is later (omega (arith, some, few)))) some (omega (arith, so_far))
     (rw position at more)
 
--- the next ones too
+-- the next sectors are mapped, too
 pub mapped_on : {S F : Type 0} {past : SinkPast S} {fine : Unit {0}} {old middle new : S} {before between after : WalkerView} {mapping : Mapping} {found first len at rest n : ℕ}
     → IsLawful past → Keeps mapping → IsMappedTo past old middle before between mapping first len at rest → IsMapped {F = F} past (Ok fine) middle new between after (record mapping { found = found }) at n → 1 ≤ n → n ≤ rest → (mapping.op ≡ Read → n < rest → Turns mapping before (at + n))
     → IsMappedTo past old new before after (record mapping { found = found }) first len (at + n) (rest - n)
@@ -136,7 +136,7 @@ mapped_on {past} {old} {middle} {new} {before} {between} {after} {mapping} {foun
       turns = λ is later more. turns is (omega (arith, more));
     }
 
--- all of them
+-- all sectors are mapped
 pub mapped_whole : {S F : Type 0} {past : SinkPast S} {fine : Unit {0}} {old new : S} {before after : WalkerView} {mapping : Mapping} {first len at rest : ℕ} → IsMappedTo past old new before after mapping first len at rest → rest ≤ 0
     → IsMapped {F = F} past (Ok fine) old new before after mapping first len
 mapped_whole {F} {past} {fine} {old} {new} {before} {after} {mapping} {first} {len} {rest} one none =
@@ -155,7 +155,7 @@ mapped_whole {F} {past} {fine} {old} {new} {before} {after} {mapping} {first} {l
       bounded = one.mapped.bounded;
     })
 
--- or a beginning of the next ones, and then a fault
+-- the sink failed during the next sectors
 pub mapped_cut : {S F : Type 0} {past : SinkPast S} {fault : F} {result : Result (Unit {0}) F} {old middle new : S} {before between after : WalkerView} {mapping : Mapping} {found first len at rest n : ℕ}
     → IsLawful past → Keeps mapping → IsErr result → IsMappedTo past old middle before between mapping first len at rest → IsMapped {R = Unit {0}} past (Err fault) middle new between after (record mapping { found = found }) at n → 1 ≤ n → n ≤ rest → IsMapped past result old new before after (record mapping { found = found }) first len
 mapped_cut {result = Ok done} lawful keeps is_err one two some few = absurd cc
@@ -175,14 +175,14 @@ mapped_cut {past} {result = Err cause} {old} {middle} {new} {before} {between} {
       bounded = λ is sound. searches_more (mapping.path before.stack before.state) (mapping.depth before.stack) first (done + n) len before.looked.searches (after.looked.searches + found) (omega (arith, few, one.within)) (searches_next keeps some few one two is sound);
     }
 
--- the last ones, whatever came of them
+-- the last sectors are mapped, with whatever result
 pub mapped_last : {S F : Type 0} {past : SinkPast S} {result : Result (Unit {0}) F} {old middle new : S} {before between after : WalkerView} {mapping : Mapping} {found first len at rest : ℕ}
     → IsLawful past → Keeps mapping → IsMappedTo past old middle before between mapping first len at rest → IsMapped past result middle new between after (record mapping { found = found }) at rest → 1 ≤ rest
     → IsMapped past result old new before after (record mapping { found = found }) first len
 mapped_last {result = Ok done} lawful keeps one two some = mapped_whole (mapped_on lawful keeps one two some (omega arith) (λ is more. absurd (omega (arith, more)))) (omega arith)
 mapped_last {result = Err fault} lawful keeps one two some = mapped_cut {fault = fault} lawful keeps refl one two some (omega arith)
 
--- A look changes nothing but the counts, and is at most one search
+-- A look-up changes only the counts, and is at most one search
 
 pub mapped_after_look : {S R F : Type 0} {past : SinkPast S} {result : Result R F} {old new : S} {before looked after : WalkerView} {first len : ℕ} (mapping : Mapping) → mapping.found ≡ 0
     → stack_state looked ≡ stack_state before → AreAdded before.looked looked.looked → looked.looked.searches ≤ before.looked.searches + 1 → IsMapped past result old new looked after (record mapping { found = 1 }) first len → IsMapped past result old new before after mapping first len

@@ -1,16 +1,16 @@
--- Laws of what units make of disks, and of the sectors that they answer.
+-- Laws of the functions that apply units to the values of disks.
 use Rattle.dm_map.specs.Base.{ℕ, List, [], cond, refl, ap, ◌∙◌}
 use Rattle.dm_map.specs.own.Contents.{Values, played, played_unit, sector_after, sector_past, stored}
 use Rattle.dm_map.specs.pieces.Units.{BlockUnit, WriteOf, CopyOf, FillOf}
 use Rattle.std.specs.Prelude.{◌≡◌, ◌&&◌, ◌∷◌, ◌++◌, ◌==◌}
 
--- the sectors that units answer, and then others
+-- counting the sectors that two lists of units answer: first the one list, then the other
 pub past-append : (units more : List BlockUnit) (sector : ℕ) → sector_past (units ++ more) sector ≡ sector_past more (sector_past units sector)
 unfolding sector_past
 past-append [] more sector = refl
 past-append (unit ∷ units) more sector = past-append units more (sector_after unit sector)
 
--- Values are asked sector by sector, so what is the same stays the same
+-- Disks with equal values in every sector still have equal values after one and the same unit.
 
 stored_cong : {V : Type 0} (values others : Values V) (to to_sector disk sector : ℕ) (a b : V) → a ≡ b → ((k x : ℕ) → values k x ≡ others k x) → stored values to to_sector a disk sector ≡ stored others to to_sector b disk sector
 stored_cong {V = V} values others to to_sector disk sector a b e same = ap (λ (v : V). cond (disk == to && sector == to_sector) v (values disk sector)) e ∙ ap (λ (v : V). cond (disk == to && sector == to_sector) b v) (same disk sector)

@@ -1,4 +1,4 @@
--- The laws of a sink, for a list of pieces. They are among the specs since its impl cites them.
+-- Proofs that a list of pieces is a lawful sink. They are among the specs since the `impl Sink` imports them.
 use Rattle.dm_map.specs.Base.{List, [], append_assoc, sym, ap, ◌∙◌, append-nil}
 use Rattle.dm_map.specs.pieces.Units.{BlockUnit}
 use Rattle.dm_map.specs.pieces.Sink.{OfBeginning}

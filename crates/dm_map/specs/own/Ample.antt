@@ -1,4 +1,4 @@
--- Stacks that can lose nothing: no line is an `error` line, and each store has room for all chunks of its snapshot.
+-- Stacks that can lose no data: no line is an `error` line, and each store has room for all chunks of its snapshot.
 use Rattle.dm_map.specs.Base.{ℕ, nat_eq, true, Some, List, AllByRecursion, IsDistinct, Op, Device, ResolvedSnapshot, IsTidy, IsTop, place_count, Description, device_len, lower_len, lower_of, all_lines}
 use Rattle.dm_table.specs.declared.tables.table.Target.{Target}
 use Rattle.dm_table.specs.declared.tables.table.Target.TheVariants as targets
@@ -15,38 +15,38 @@ use Rattle.std.specs.Prelude.{◌≡◌, ◌+◌, ◌-◌, ◌/◌, ◌<◌, ◌
 
 -- The premise
 
--- how many chunks a device of this length has: the last one may be shorter
+-- the number of chunks in a device of this length, where the last one may be shorter
 abbrev pub chunk_count : (chunk len : ℕ) → ℕ
 chunk_count chunk len = (len + (chunk - 1)) / chunk
 
--- a line of this length can lose nothing: it is no `error` line, and no snapshot whose store has fewer places than it has chunks; a target without a clause loses nothing
+-- a line of this length can lose no data: it is not an `error` line, nor a snapshot with more chunks than its store has room for; any target not listed here passes
 abbrev pub IsAmpleTarget : Description → (len : ℕ) → Target → Type 0
 IsAmpleTarget stack len targets.Error = ⊥
 IsAmpleTarget stack len (targets.Snapshot origin store kind chunk) = chunk_count chunk len ≤ place_count kind chunk (lower_len stack (lower_of stack store))
 IsAmpleTarget stack len _ = Unit {0}
 
--- each line of the stack can lose nothing
+-- no line of the stack can lose data
 abbrev pub IsAmple : Description → Type 0
 IsAmple stack = AllByRecursion (λ line. IsAmpleTarget stack line.len line.target) (all_lines stack.devices)
 
 -- What holds in every state
 
--- a snapshot took none but its own chunks, and none twice
+-- the snapshot took only chunks that its device has, and none of them twice
 pub record AreOwnChunks (chunk len : ℕ) (chunks : List ℕ) : Type 0 where
   pub once : IsDistinct nat_eq chunks
   pub own : AllByRecursion (λ taken. taken < chunk_count chunk len) chunks
 
--- each snapshot took none but its own chunks, and none twice
+-- every snapshot of the stack took only chunks that its device has, and none of them twice
 abbrev pub TookOwn : Description → State → Type 0
 TookOwn stack state = (device : ℕ) (snapshot : ResolvedSnapshot) → snapshot_at stack device ≡ Some snapshot → AreOwnChunks snapshot.chunk (device_len stack device) (taken_at state device).chunks
 
--- no snapshot is lost
+-- no snapshot of the stack is lost, and each took only chunks of its own, none twice
 pub record IsIntact (stack : Description) (state : State) : Type 0 where
   pub fits : IsFitting stack state
   pub valid : (device : ℕ) → (taken_at state device).valid ≡ true
   pub chunks : TookOwn stack state
 
--- each sector of a top device has a value, which is that of its row
+-- every sector of each top device reads without an error, as the value last written to it through that device
 pub record AreExact {V : Type 0} (zeros : V) (stack : Description) (state : State) (values : Values V) (rows : Rows V) : Type 0 where
   pub own : AreOwn zeros stack state values rows
   pub intact : IsIntact stack state
@@ -55,13 +55,13 @@ pub record AreExact {V : Type 0} (zeros : V) (stack : Description) (state : Stat
 
 -- The theorem
 
--- no snapshot is lost, and no read within its device is an error, whatever is asked of any device: at the start, and after the first sectors of a request, which may be all
+-- on an ample stack no snapshot is ever lost and no read within its device fails, whichever devices are accessed: at the start, and after any number of a request's first sectors
 pub record AreNeverLost (stack : Description) : Type 0 where
   pub start : IsIntact stack (start_state stack)
   pub request : (op : Op) (state : State) (asked start len sectors : ℕ) → IsAmple stack → IsIntact stack state → IsIntact stack (state_past stack op asked start len sectors state)
   pub reads : (state : State) (device sector : ℕ) → IsAmple stack → IsIntact stack state → sector < device_len stack device → read stack state (Device device) sector ≡ Fails → ⊥
 
--- each top device has its row, without errors, whatever is asked of top devices, where no claims meet: at the start, after a request, and after the first units of one
+-- on an ample stack without clashing claims, every sector of each top device reads as last written through it: at the start, after a request to a top device, and after the first units of one
 pub record AreAlwaysExact (V : Type 0) (stack : Description) : Type 0 where
   pub start : (zeros : V) (values : Values V) → IsAmple stack → AreExact zeros stack (start_state stack) values (first_rows zeros stack values)
   pub request : (zeros : V) (written : ℕ → V) (op : Op) (state : State) (top start len : ℕ) (values : Values V) (rows : Rows V) → IsAmple stack → IsTidy stack → IsTop stack top → AreExact zeros stack state values rows

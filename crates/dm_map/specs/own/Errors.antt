@@ -1,4 +1,4 @@
--- The law of errors: where a read is an error, and when a snapshot is lost.
+-- Why a read fails, and what makes a snapshot lost.
 use Rattle.dm_map.specs.Base.{ℕ, true, false, Some, Op, Lower, Device, ResolvedLine, ResolvedSnapshot, found_at, Description, device_len}
 use Rattle.dm_stack.specs.declared.lines.resolved_line.ResolvedTarget.TheVariants as found
 use Rattle.dm_map.specs.own.Halts.{state_past}
@@ -13,31 +13,31 @@ use Rattle.dm_map.specs.state.Tables.{snapshot_at}
 use Rattle.dm_map.specs.pieces.Units.{Fails}
 use Rattle.std.specs.Prelude.{◌≡◌, ◌↔◌, ◌<◌}
 
--- a read that comes to this sector of a device ends there, as an error: its line is an `error` line, or the device a snapshot that is lost
+-- a read that reaches this sector of a device fails there: its line is an `error` line, or the device is a lost snapshot
 pub data EndsHere (stack : Description) (state : State) (device sector : ℕ) : Type 0 where
   AtError : (line : ResolvedLine) → found_at stack device sector ≡ Some line → line.target ≡ found.Error → EndsHere stack state device sector
   AtLost : (snapshot : ResolvedSnapshot) → snapshot_at stack device ≡ Some snapshot → (taken_at state device).valid ≡ false → EndsHere stack state device sector
 
--- the way of a read meets a sector at which ways end by an error
+-- the path of a read reaches a sector at which reads fail
 pub record MeetsError (stack : Description) (state : State) (from : Node) : Type 0 where
   pub device : ℕ
   pub sector : ℕ
   pub way : Touches stack state from (node (Device device) sector)
   pub ends : EndsHere stack state device sector
 
--- reads are errors, and snapshots are lost, exactly where this says
+-- reads fail and snapshots are lost for the causes below, and only for them
 pub record HaveCauses (stack : Description) : Type 0 where
-  -- a read within its device is an error exactly where its way meets an `error` line or a snapshot that is lost
+  -- a read within its device fails exactly if its path reaches an `error` line or a lost snapshot
   pub reads : (state : State) (device sector : ℕ) → IsFitting stack state → sector < device_len stack device → (read stack state (Device device) sector ≡ Fails) ↔ MeetsError stack state (node (Device device) sector)
-  -- a write loses a valid snapshot exactly by a chunk that is due for it
+  -- a write makes a valid snapshot lost exactly if one of the chunks due for the write does
   pub writes : (state : State) (lower : Lower) (sector device : ℕ) → IsFitting stack state → (taken_at state device).valid ≡ true
       → ((taken_at (write stack state lower sector).state device).valid ≡ false) ↔ AreLosing stack state device (due stack state lower sector)
-  -- the first sectors of a request lose a valid snapshot exactly if one of them does
+  -- the first sectors of a request make a valid snapshot lost exactly if the write of one of them does
   pub requests : (state : State) (op : Op) (asked start len sectors device : ℕ) → IsFitting stack state → (taken_at state device).valid ≡ true
       → ((taken_at (state_past stack op asked start len sectors state) device).valid ≡ false) ↔ IsLostIn stack state device op asked start len sectors
-  -- all sectors of a request leave the state that the request does
+  -- a request leaves the state that all of its sectors leave
   pub whole : (state : State) (op : Op) (asked start len : ℕ) → (request_step stack op asked start len state).state ≡ state_past stack op asked start len len state
-  -- a snapshot that is lost stays lost
+  -- a lost snapshot stays lost
   pub stays : (state : State) (op : Op) (asked start len sectors device : ℕ) → (taken_at state device).valid ≡ false → (taken_at (state_past stack op asked start len sectors state) device).valid ≡ false
-  -- a state that the stack can be in still is one after the first sectors of a request, which may be all
+  -- a state that the stack can be in stays one after any number of a request's first sectors
   pub fits : (state : State) (op : Op) (asked start len sectors : ℕ) → IsFitting stack state → IsFitting stack (state_past stack op asked start len sectors state)

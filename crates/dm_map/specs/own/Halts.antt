@@ -1,4 +1,4 @@
--- A request of which only the first units are played: those, and the state that it leaves.
+-- A request that is halted after some of its units: the units done by then, and the state that it leaves.
 use Rattle.dm_map.specs.Base.{ℕ, List, nat_lt, take, Op, Device, Description, device_len}
 use Rattle.dm_stack.specs.declared.checks.graph.TheConstants.{MOST_DEPTH}
 use Rattle.dm_map.specs.own.Contents.{sector_past}
@@ -8,17 +8,17 @@ use Rattle.dm_map.specs.walk.Steps.{steps}
 use Rattle.dm_map.specs.pieces.Units.{BlockUnit}
 use Rattle.std.specs.Prelude.{◌+◌, if◌then◌else◌}
 
--- the state after the first sectors of a request: one that passes the device's end changes nothing
+-- the state after the first sectors of a request; a request that passes the device's end changes nothing
 abbrev pub state_past : Description → Op → (device start len sectors : ℕ) → State → State
 state_past stack op device start len sectors state =
     if nat_lt (device_len stack device) (start + len) then state
     else (steps (sector_step stack op MOST_DEPTH (Device device)) state start sectors).state
 
--- the units of a request that is stopped after this many
+-- the first count units of a request, after which it is halted
 abbrev pub halted_units : Description → Op → (device start len count : ℕ) → State → List BlockUnit
 halted_units stack op device start len count state = take count (request_step stack op device start len state).units
 
--- the state after the sectors whose units were all played: of the units of a sector the last one answers, and no other (`IsOwnWrite`, which is clause `own` of `tops_are_alone`; a read has one unit)
+-- the state after those sectors of which all units were done; the last unit of a sector answers it, and no other does (clause `own` of `tops_are_alone`, `IsOwnWrite`, says so for writes; a read has one unit)
 abbrev pub halted_state : Description → Op → (device start len count : ℕ) → State → State
 halted_state stack op device start len count state =
     state_past stack op device start len (sector_past (halted_units stack op device start len count state) 0) state

@@ -1,4 +1,4 @@
--- Requests of devices one after the other, each played to its end or halted, and what there is after them, for values of any type.
+-- Requests to devices one after the other, each completed or halted, and the disks, state and rows after them, for any type of values.
 use Rattle.dm_map.specs.Base.{ℕ, List, Option, None, Some, take, Op, Description}
 use Rattle.dm_map.specs.own.Contents.{Values, played}
 use Rattle.dm_map.specs.own.Halts.{halted_state}
@@ -8,7 +8,7 @@ use Rattle.dm_map.specs.state.State.{State}
 use Rattle.dm_map.specs.walk.Mapping.{request_step}
 use Rattle.dm_map.specs.walk.Steps.{Step}
 
--- a request of a device: what it writes to each sector, and after how many of its units it is halted, if it is
+-- a request to a device, with the value that it writes to each sector, and the number of units after which it is halted, if it is
 pub record Asked (V : Type 0) : Type 0 where
   pub op : Op
   pub device : ℕ
@@ -17,35 +17,35 @@ pub record Asked (V : Type 0) : Type 0 where
   pub written : ℕ → V
   pub halted_after : Option ℕ
 
--- what becomes of a request in a state
+-- the units that a request becomes in a state, and the state after them
 abbrev pub asked_step : {V : Type 0} → Description → Asked V → State → Step
 asked_step stack asked state = request_step stack asked.op asked.device asked.start asked.len state
 
--- the first units that are played of all
+-- the units that are done: all, or the first count of them
 abbrev pub played_of : Option ℕ → List BlockUnit → List BlockUnit
 played_of None units = units
 played_of (Some count) units = take count units
 
--- the units of a request that are played: all, or as many as it is halted after
+-- the units of a request that are done before it completes or is halted
 abbrev pub asked_units : {V : Type 0} → Description → Asked V → State → List BlockUnit
 asked_units stack asked state = played_of asked.halted_after (asked_step stack asked state).units
 
--- the state that a request leaves: that after all its sectors, or after those whose units were all played
+-- the state after a request: that after all its sectors, or after those of which all units were done
 abbrev pub left_state : {V : Type 0} → Description → Option ℕ → Asked V → State → State
 left_state stack None asked state = (asked_step stack asked state).state
 left_state stack (Some count) asked state = halted_state stack asked.op asked.device asked.start asked.len count state
 
--- what there is at a time: on the disks, of the snapshots, and of each device if it were alone
+-- a moment between requests: what the disks hold, the snapshots' state, and what each device would hold if it were alone
 pub record Moment (V : Type 0) : Type 0 where
   pub values : Values V
   pub state : State
   pub rows : Rows V
 
--- each top device has its row, or errors
+-- each sector of a top device reads as its row says, or as an error
 abbrev pub IsOwnAt : {V : Type 0} → (zeros : V) → Description → Moment V → Type 0
 IsOwnAt zeros stack moment = AreOwn zeros stack moment.state moment.values moment.rows
 
--- after a request that is played to its end, or halted
+-- the moment after a request, which is completed, or halted after some units
 abbrev pub after_played : {V : Type 0} → (zeros : V) → Description → Option ℕ → Asked V → Moment V → Moment V
 after_played zeros stack stop asked moment = record {
   values = played zeros asked.written asked.start (played_of stop (asked_step stack asked moment.state).units) moment.values;

@@ -1,4 +1,4 @@
--- Which writes lose a snapshot: those that have to take a chunk and can't (the kernel's admin guide, device-mapper/snapshot).
+-- Writes that make a snapshot lost: those that must copy a chunk to its store but cannot (the kernel's admin guide, device-mapper/snapshot).
 use Rattle.dm_map.specs.Base.{ℕ, zero, suc, true, false, List, [], None, Option, Some, length, map, Op, Write, Lower, Device, Disk, ResolvedLine, ResolvedOver, ResolvedSnapshot, ResolvedTarget, Description, device_len, is_ro_at, below_plain, found_at}
 use Rattle.dm_stack.specs.declared.checks.graph.TheConstants.{MOST_DEPTH}
 use Rattle.dm_stack.specs.declared.lines.resolved_line.ResolvedTarget.TheVariants as found
@@ -11,63 +11,63 @@ use Rattle.dm_map.specs.state.State.{State, taken_at}
 use Rattle.dm_map.specs.pieces.Units.{Fails}
 use Rattle.std.specs.Prelude.{◌≡◌, ◌⊎◌, ◌+◌, ◌-◌, ◌/◌, ◌<◌, ◌≤◌, ◌∷◌, ◌++◌, if◌then◌else◌}
 
--- Chunks that are due: a write takes them before it goes on, unless there is nothing left to do for them
+-- Due chunks: those that a write takes before it writes, unless they are settled
 
--- a chunk of a snapshot
+-- a chunk of a snapshot that a write takes first, by the device that the snapshot is
 pub record Due : Type 0 where
   pub device : ℕ
   pub snapshot : ResolvedSnapshot
   pub chunk : ℕ
 
--- the chunks of a sector of an origin, in its snapshots
+-- the chunks with this sector of an origin, one for each of its snapshots
 abbrev pub due_over : List ResolvedOver → (sector : ℕ) → List Due
 due_over over sector = map (λ one. record { device = one.device; snapshot = one.snapshot; chunk = sector / one.snapshot.chunk }) over
 
--- the chunks that are due for a write at a distance from the start of a line of this target: a snapshot's own chunk, where the write isn't refused; for an origin those of its snapshots, and then what is due below it
+-- the due chunks of a write at a distance into a line with this target: a snapshot's own chunk, unless the write is refused; for an origin those of its snapshots, and then those below
 abbrev pub due_at_target : Description → State → (device : ℕ) → ResolvedTarget → (distance : ℕ) → (Lower → State → ℕ → List Due) → List Due
 due_at_target stack state device (found.Snapshot snapshot) distance next =
     if is_refused stack snapshot (taken_at state device) (distance / snapshot.chunk) then [] else record { device = device; snapshot = snapshot; chunk = distance / snapshot.chunk } ∷ []
 due_at_target stack state device (found.Origin origin) distance next = due_over origin.over distance ++ next origin.to (serve stack origin.over distance state).state distance
 due_at_target stack state device target distance next = by_below (below_plain target distance) [] [] (λ to sector. next to state sector)
 
--- the chunks that are due for a write, by the line that holds the sector
+-- the due chunks of a write to a sector of a device, by the line that holds the sector
 abbrev pub due_at_line : Description → State → (device : ℕ) → Option ResolvedLine → (sector : ℕ) → (Lower → State → ℕ → List Due) → List Due
 due_at_line stack state device (Some line) sector next = due_at_target stack state device line.target (sector - line.start) next
 due_at_line stack state device None sector next = []
 
--- the chunks that are due for the write of a sector, through at most this many levels of devices: a read-only device lets none through
+-- the due chunks of a write, through at most this many levels of devices; a write to a read-only device has none
 unfoldable pub due_in : Description → ℕ → Lower → State → ℕ → List Due
 due_in stack levels (Disk disk) state sector = []
 due_in stack zero (Device device) state sector = []
 due_in stack (suc levels) (Device device) state sector =
     if is_ro_at stack device then [] else due_at_line stack state device (found_at stack device sector) sector (λ to after lower. due_in stack levels to after lower)
 
--- the chunks that are due for the write of a sector, in the order in which they are taken
+-- the due chunks of a write to a sector, in the order in which they are taken
 abbrev pub due : Description → State → Lower → (sector : ℕ) → List Due
 due stack state lower sector = due_in stack MOST_DEPTH lower state sector
 
 -- Snapshots that are lost
 
--- a sector of the chunk reads as an error from the origin
+-- the origin reads with an error in one of the chunk's sectors
 pub record HasError (stack : Description) (state : State) (one : Due) : Type 0 where
   pub sector : ℕ
   pub from : first_of one.snapshot one.chunk ≤ sector
   pub before : sector < first_of one.snapshot one.chunk + count_of stack one.snapshot one.device one.chunk
   pub fails : read stack state one.snapshot.origin sector ≡ Fails
 
--- a snapshot is lost by a chunk that is due: it is valid and hasn't taken the chunk, and either has no place left for it, or finds an error in it
+-- the due chunk makes this snapshot lost: the snapshot is valid and hasn't taken the chunk, and its store is full or the origin has an error in the chunk
 pub record IsLosing (stack : Description) (state : State) (device : ℕ) (one : Due) : Type 0 where
   pub of : one.device ≡ device
   pub valid : (taken_at state device).valid ≡ true
   pub fresh : number_in one.chunk (taken_at state device).chunks ≡ None
   pub why : (has_place stack one.snapshot (length (taken_at state device).chunks) ≡ false) ⊎ HasError stack state one
 
--- a snapshot is lost by one of some chunks, which are taken one after the other
+-- one of these due chunks, taken in this order, makes the snapshot lost
 abbrev pub AreLosing : Description → State → (device : ℕ) → List Due → Type 0
 AreLosing stack state device [] = ⊥
 AreLosing stack state device (one ∷ later) = IsLosing stack state device one ⊎ AreLosing stack (take_chunk stack one.snapshot one.device one.chunk state).state device later
 
--- a snapshot is lost by the write of one of the first sectors of a request, which doesn't pass the end of its device
+-- the write of one of the first sectors of a request makes the snapshot lost; the request lies within its device
 pub record IsLostIn (stack : Description) (state : State) (device : ℕ) (op : Op) (asked start len sectors : ℕ) : Type 0 where
   pub inside : start + len ≤ device_len stack asked
   pub at : ℕ

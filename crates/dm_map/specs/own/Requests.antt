@@ -1,4 +1,4 @@
--- Requests of top devices, as all top devices see them.
+-- Each top device keeps its data apart, whatever is requested of the others.
 use Rattle.dm_map.specs.Base.{ℕ, Op, IsTidy, IsTop, Description}
 use Rattle.dm_map.specs.own.Contents.{Values, played, sector_past}
 use Rattle.dm_map.specs.own.Halts.{halted_state, halted_units}
@@ -7,7 +7,7 @@ use Rattle.dm_map.specs.state.State.{State, start_state}
 use Rattle.dm_map.specs.walk.Mapping.{request_step}
 use Rattle.std.specs.Prelude.{◌≤◌}
 
--- each top device has its row, or errors, whatever is asked of top devices, where no claims meet: at the start, after a request, and after the first units of one, of which no more sectors are whole than it has
+-- if no claims clash, each sector of a top device reads as last written through it, or as an error: at the start, after a request, and after its first units, which complete no more sectors than the request has
 pub record AreAlone (V : Type 0) (stack : Description) : Type 0 where
   pub start : (zeros : V) (values : Values V) → AreOwn zeros stack (start_state stack) values (first_rows zeros stack values)
   pub request : (zeros : V) (written : ℕ → V) (op : Op) (state : State) (top start len : ℕ) (values : Values V) (rows : Rows V) → IsTidy stack → IsTop stack top → AreOwn zeros stack state values rows

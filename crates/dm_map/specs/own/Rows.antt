@@ -1,4 +1,4 @@
--- What each device would have if it were alone on a disk of its own: a row that only its own writes change.
+-- Rows: what each device would hold if it had a disk of its own, which only its own writes change.
 use Rattle.dm_map.specs.Base.{ℕ, List, [], Option, Some, Device, IsTop, Description}
 use Rattle.dm_map.specs.own.Contents.{Values, Stays, content, sector_after, stored}
 use Rattle.dm_map.specs.state.Fitting.{IsFitting}
@@ -6,29 +6,29 @@ use Rattle.dm_map.specs.state.State.{State, start_state}
 use Rattle.dm_map.specs.pieces.Units.{BlockUnit, WriteOf}
 use Rattle.std.specs.Prelude.{◌∷◌}
 
--- what each sector of each device has, none where that is an error
+-- the value that each sector of each device should read as, or none for an error
 abbrev pub Rows : Type 0 → Type 0
 Rows V = Values (Option V)
 
--- a sector that is answered by a write has what was written, and no other unit changes a row
+-- the rows after one unit of a request to a device: a write changes the device's row in one sector, and any other unit changes nothing
 abbrev pub row_unit : {V : Type 0} → (written : V) → (device sector : ℕ) → BlockUnit → Rows V → Rows V
 row_unit written device sector (WriteOf disk at) rows = stored rows device sector (Some written)
 row_unit written device sector unit rows = rows
 
--- the rows after the units of a request of a device, from the one for a sector on
+-- the rows after the units of a request to a device, of which the first belongs to this sector
 unfoldable pub rows_played : {V : Type 0} → (written : ℕ → V) → (device sector : ℕ) → List BlockUnit → Rows V → Rows V
 rows_played written device sector [] rows = rows
 rows_played written device sector (unit ∷ units) rows = rows_played written device (sector_after unit sector) units (row_unit (written sector) device sector unit rows)
 
--- the rows of a stack in a state: what the sectors of its devices have
+-- the rows that devices have in a state: what each of their sectors reads as
 abbrev pub rows_in : {V : Type 0} → (zeros : V) → Description → State → Values V → Rows V
 rows_in zeros stack state values device sector = content zeros stack state values (Device device) sector
 
--- the rows of a stack at the start
+-- the rows that devices have before the first request
 abbrev pub first_rows : {V : Type 0} → (zeros : V) → Description → Values V → Rows V
 first_rows zeros stack = rows_in zeros stack (start_state stack)
 
--- each top device has its row, or errors
+-- each sector of a top device reads as its row says, or as an error
 pub record AreOwn {V : Type 0} (zeros : V) (stack : Description) (state : State) (values : Values V) (rows : Rows V) : Type 0 where
   pub fits : IsFitting stack state
   pub tops : (top sector : ℕ) → IsTop stack top → Stays (rows top sector) (content zeros stack state values (Device top) sector)

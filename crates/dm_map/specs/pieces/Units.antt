@@ -1,10 +1,10 @@
--- What becomes of one sector of a request, the units of a piece, and where a piece lies.
+-- Units, the operations on single sectors; the units of a piece, and when a piece lies within the disks.
 use Rattle.dm_map.specs.Base.{ℕ, zero, suc, List, [], length, Op, Device, Disk, ResolvedTarget, Description, disk_len, Below, Lies, below_plain, LegsView, Piece}
 use Rattle.dm_table.specs.declared.requests.request.Op.TheVariants as ops
 use Rattle.dm_map.specs.declared.pieces.piece.Piece.TheVariants as pieces
 use Rattle.std.specs.Prelude.{◌+◌, ◌<◌, ◌≤◌, ◌∷◌}
 
--- the unit of one sector: a read or a write of a sector of a disk, zeros, a write thrown away, an error, a copy of a disk's sector to another, or zeros written to a disk's sector
+-- an operation on one sector: a read or a write of a sector of a disk, a read of zeros, a discarded write, an error, a copy of a disk's sector to another disk's, or zeros written to a disk's sector
 pub data BlockUnit : Type 0 where
   ReadOf : (disk sector : ℕ) → BlockUnit
   WriteOf : (disk sector : ℕ) → BlockUnit
@@ -14,7 +14,7 @@ pub data BlockUnit : Type 0 where
   CopyOf : (disk sector to to_sector : ℕ) → BlockUnit
   FillOf : (disk sector : ℕ) → BlockUnit
 
--- the unit that continues another: of the same kind, on the same disks, at the next sectors
+-- the unit that continues this one: of the same kind, on the same disks, one sector further
 abbrev pub next_unit : BlockUnit → BlockUnit
 next_unit (ReadOf disk sector) = ReadOf disk (suc sector)
 next_unit (WriteOf disk sector) = WriteOf disk (suc sector)
@@ -24,31 +24,31 @@ next_unit Fails = Fails
 next_unit (CopyOf disk sector to to_sector) = CopyOf disk (suc sector) to (suc to_sector)
 next_unit (FillOf disk sector) = FillOf disk (suc sector)
 
--- len units, each continuing the one before
+-- len units, each one sector further than the one before
 abbrev pub units_in : BlockUnit → ℕ → List BlockUnit
 units_in unit zero = []
 units_in unit (suc len) = unit ∷ units_in (next_unit unit) len
 
--- what is done at a sector of a disk
+-- the read or the write of a sector of a disk
 abbrev pub disk_unit : Op → (disk sector : ℕ) → BlockUnit
 disk_unit ops.Read disk sector = ReadOf disk sector
 disk_unit ops.Write disk sector = WriteOf disk sector
 
--- what is done at a sector by what lies below it, where that is on a disk
+-- the read or the write of the sector below, if that is on a disk; else an error
 abbrev pub below_unit : Op → Below → BlockUnit
 below_unit op (Lies (Disk disk) sector) = disk_unit op disk sector
 below_unit op _ = Fails
 
--- the units of len sectors of a line, from a distance from its start on, where they lie on disks
+-- the units of len sectors of a line from a distance from its start, where all of them map straight to disks
 abbrev pub line_units : Op → ResolvedTarget → (distance len : ℕ) → List BlockUnit
 line_units op target distance zero = []
 line_units op target distance (suc len) = below_unit op (below_plain target distance) ∷ line_units op target (suc distance) len
 
--- the units of the sectors that are left of a row of legs on disks
+-- the units of the sectors that an iterator over the legs of a line on disks has not yet returned
 abbrev pub legs_units : Op → LegsView → List BlockUnit
 legs_units op legs = line_units op legs.target legs.distance legs.left
 
--- the unit of a piece's first sector
+-- the unit of the first sector of a piece
 abbrev pub first_unit : Piece → BlockUnit
 first_unit (pieces.Read disk start len) = ReadOf disk start
 first_unit (pieces.Write disk start len) = WriteOf disk start
@@ -58,7 +58,7 @@ first_unit (pieces.Error len) = Fails
 first_unit (pieces.Copy disk start len to to_start) = CopyOf disk start to to_start
 first_unit (pieces.Fill len disk start) = FillOf disk start
 
--- the sectors of a piece
+-- the number of sectors in a piece
 abbrev pub piece_len : Piece → ℕ
 piece_len (pieces.Read disk start len) = len
 piece_len (pieces.Write disk start len) = len
@@ -68,11 +68,11 @@ piece_len (pieces.Error len) = len
 piece_len (pieces.Copy disk start len to to_start) = len
 piece_len (pieces.Fill len disk start) = len
 
--- the units of a piece
+-- the units of all sectors of a piece, in rising order
 abbrev pub units_of : Piece → List BlockUnit
 units_of piece = units_in (first_unit piece) (piece_len piece)
 
--- the sectors of a piece that has no disk, and 0 for any other
+-- the number of sectors of a piece that touches no disk, and 0 for a piece on a disk
 abbrev pub diskless_len : Piece → ℕ
 diskless_len (pieces.Read disk start len) = 0
 diskless_len (pieces.Write disk start len) = 0
@@ -82,12 +82,12 @@ diskless_len (pieces.Error len) = len
 diskless_len (pieces.Copy disk start len to to_start) = 0
 diskless_len (pieces.Fill len disk start) = 0
 
--- the disk is one of the stack, and has len sectors from start on
+-- the stack has this disk, and the disk has len sectors from start on
 pub record IsOnDisk (stack : Description) (disk start len : ℕ) : Type 0 where
   pub there : disk < length stack.disks
   pub inside : start + len ≤ disk_len stack disk
 
--- each disk of a piece is one of the stack, and has its sectors
+-- every disk of a piece is one of the stack's and has all sectors that the piece uses there
 abbrev pub IsOnDisks : Description → Piece → Type 0
 IsOnDisks stack (pieces.Read disk start len) = IsOnDisk stack disk start len
 IsOnDisks stack (pieces.Write disk start len) = IsOnDisk stack disk start len

@@ -1,30 +1,30 @@
--- What a looker counted while something was done with it.
+-- How many line searches a looker made, and how many comparisons these took.
 use Rattle.dm_map.specs.Base.{ℕ, Looking}
 use Rattle.std.specs.Prelude.{◌+◌, ◌-◌, ◌*◌, ◌≤◌}
 
--- the counts of a looker: its searches, and their comparisons of a line's start with a sector
+-- a looker's totals: line searches, and comparisons of a line's start with a sector
 pub record Counts : Type 0 where
   pub searches : ℕ
   pub comparisons : ℕ
 
--- a search makes at most this many: a device has at most 65,536 lines, a number of 17 binary digits
+-- the most comparisons in one search: a device has at most 65,536 lines, a count of 17 binary digits
 abbrev pub most_comparisons : ℕ
 most_comparisons = 17
 
--- only searches were added, and their comparisons
+-- the counts only grew, and by at most `most_comparisons` comparisons for each search added
 pub record AreAdded (before after : Counts) : Type 0 where
   pub searches : before.searches ≤ after.searches
   pub comparisons : before.comparisons ≤ after.comparisons
   pub few : after.comparisons ≤ before.comparisons + most_comparisons * (after.searches - before.searches)
 
--- the counts of a looker
+-- the searches and comparisons of a looker so far
 abbrev pub counts_of : Looking → Counts
 counts_of looker = record { searches = looker.searches; comparisons = looker.comparisons }
 
--- counts that grew by others, and those at the start
+-- the sum of two counts
 abbrev pub grown_by : Counts → Counts → Counts
 grown_by before more = record { searches = before.searches + more.searches; comparisons = before.comparisons + more.comparisons }
 
--- nothing looked at yet
+-- the counts before the first look-up
 abbrev pub no_counts : Counts
 no_counts = record { searches = 0; comparisons = 0 }

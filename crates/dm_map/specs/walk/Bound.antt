@@ -1,4 +1,4 @@
--- How sectors are mapped, and a bound on the searches of a read, by the stretches of what is read.
+-- A bound on the line searches of a read: one per level for each stretch of sectors with one path.
 use Rattle.dm_map.specs.Base.{ℕ, List, [], Result, Op, Read, ResolvedOrigin, ResolvedTarget, Lower, Device, below_target, chunk_at, lower_depth, Description, IsSound, depth_of}
 use Rattle.dm_map.specs.pieces.Sink.{SinkPast}
 use Rattle.dm_map.specs.state.Snapshots.{read_over}
@@ -11,7 +11,7 @@ use Rattle.dm_map.specs.walk.Reads.{by_below}
 use Rattle.dm_map.specs.walk.Steps.{Step, steps}
 use Rattle.std.specs.Prelude.{◌≡◌, ◌+◌, ◌-◌, ◌*◌, ◌≤◌, ◌∷◌}
 
--- how sectors are mapped: for which operation, by which step and along which path each of them, over how many levels of devices at most, and how many searches were made before
+-- one of several ways to map sectors: the operation, the step and the path of a sector, the most levels of devices, and how many searches were made before
 pub record Mapping : Type 0 where
   pub op : Op
   pub step : Description → State → ℕ → Step
@@ -19,29 +19,29 @@ pub record Mapping : Type 0 where
   pub depth : Description → ℕ
   pub found : ℕ
 
--- the mapping of the sectors of a device or a disk, through at most this many levels of devices
+-- maps sectors of a device or a disk, through at most this many levels of devices
 abbrev pub range_mapping : Op → ℕ → Lower → Mapping
 range_mapping op levels lower = record { op = op; step = λ stack. sector_step stack op levels lower; path = λ stack state. path stack state levels lower; depth = λ stack. lower_depth stack lower; found = 0 }
 
--- the mapping of the sectors of a device, once the line of the first of them was looked up
+-- maps sectors of a device whose first line was looked up already, so one search counts as made
 abbrev pub found_mapping : Op → ℕ → (device : ℕ) → Mapping
 found_mapping op levels device = record (range_mapping op levels (Device device)) { found = 1 }
 
--- the mapping of the sectors of an origin's device, through at most this many levels of devices below it
+-- maps sectors of an origin's device, through at most this many levels of devices below it
 abbrev pub origin_mapping : Op → ℕ → ResolvedOrigin → Mapping
 origin_mapping op levels origin = record (range_mapping op levels origin.to) { step = λ stack. served_sector stack op levels origin }
 
--- the path of a sector at a distance from the start of a line of a device, which has this target, and the mapping of the sectors of the line, through at most this many levels of devices below it
+-- the path of a sector on a line with this target: the line's own step, and then the path of what lies below
 abbrev pub target_path : Description → State → ℕ → (device start : ℕ) → ResolvedTarget → (distance : ℕ) → List PathStep
 target_path stack state levels device start target distance =
     record { device = device; start = start; chunk = chunk_at target distance } ∷ by_below (below_target (read_over (taken_at state device)) target distance) [] [] (λ to lower. path stack state levels to lower)
 
--- the mapping of a target on a line that starts at this sector of a device, through this many levels
+-- maps sectors of a line with this target that starts at this sector of the device, through at most this many levels below it
 abbrev pub target_mapping : Op → ℕ → (device start : ℕ) → ResolvedTarget → Mapping
 target_mapping op levels device start target =
     record { op = op; step = λ stack. target_step stack op levels device target; path = λ stack state. target_path stack state levels device start target; depth = λ stack. depth_of stack device - 1; found = 0 }
 
--- len sectors from the first one on were mapped in this way. A read searched at most once a level for each stretch of their paths, with the searches that were made before
+-- len sectors were mapped. A read of a sound stack searched at most once per level for each stretch of its paths, and searches made before count
 pub record IsMapped {S R F : Type 0} (past : SinkPast S) (result : Result R F) (old new : S) (before after : WalkerView) (mapping : Mapping) (first len : ℕ) : Type 0 where
   pub walked : IsWalked past result old new before after (steps (mapping.step before.stack) before.state first len) len
   pub bounded : mapping.op ≡ Read → IsSound before.stack → after.looked.searches + mapping.found ≤ before.looked.searches + mapping.depth before.stack * stretches (mapping.path before.stack before.state) first len

@@ -1,26 +1,26 @@
--- Where all sectors of a request lie, if they lie in a row on a disk: then they are not handed over, and this is returned.
+-- When all sectors of a request lie in a row on one disk, the place is returned and no piece is handed over.
 use Rattle.dm_map.specs.Base.{ℕ, List, Option, None, Some, Result, Ok, Err, Op, Description}
 use Rattle.dm_map.specs.declared.walk.home.Home.{Home}
 use Rattle.dm_map.specs.pieces.Sink.{SinkPast}
 use Rattle.dm_map.specs.pieces.Units.{BlockUnit, IsOnDisk, disk_unit, units_in}
 use Rattle.std.specs.Prelude.{◌≡◌}
 
--- units are those of len sectors of a disk from its home on, and the disk has these sectors
+-- the units read or write len sectors of a disk from its home on, and the disk has them
 pub record IsHome (stack : Description) (op : Op) (len : ℕ) (home : Home) (of : List BlockUnit) : Type 0 where
   pub units : of ≡ units_in (disk_unit op home.disk home.start) len
   pub lies : IsOnDisk stack home.disk home.start len
 
--- a sink took the units, or it is as it was and they lie where the result says
+-- the sink received the units; or the sink is unchanged, and the units lie in a row at the home in the result
 abbrev pub HasTakenOrIsHome : {S F : Type 0} → (S → List BlockUnit → S → Type 0) → Description → Op → ℕ → Result (Option Home) F → S → List BlockUnit → S → Type 0
 HasTakenOrIsHome takes stack op len (Ok (Some home)) old units new = IsHome stack op len home units × (new ≡ old)
 HasTakenOrIsHome takes stack op len (Ok None) old units new = takes old units new
 HasTakenOrIsHome takes stack op len (Err fault) old units new = Unit {0}
 
--- a sink to which the units may not have been handed over
+-- the laws of a sink that may not have received units, where the result says their home instead
 abbrev pub or_home : {S F : Type 0} → SinkPast S → Description → Op → ℕ → Result (Option Home) F → SinkPast S
 or_home past stack op len result = record past { took = HasTakenOrIsHome past.took stack op len result }
 
--- the result where all units were handed over
+-- the result of a request whose units were all handed to the sink, so without a home
 abbrev pub handed : {F : Type 0} → Result (Unit {0}) F → Result (Option Home) F
 handed (Ok done) = Ok None
 handed (Err fault) = Err fault

@@ -1,4 +1,4 @@
--- The path of a sector that is read, and the stretches of a read: its sectors in runs of one path.
+-- The path of a read sector down the stack, and stretches: longest runs of sectors with equal paths.
 use Rattle.dm_map.specs.Base.{ℕ, zero, suc, Bool, List, [], Option, Some, None, nat_lt, pointwise, Lower, Device, Disk, ResolvedLine, Description, device_len, below_target, chunk_at, found_at, is_same_chunk}
 use Rattle.dm_stack.specs.declared.checks.graph.TheConstants.{MOST_DEPTH}
 use Rattle.dm_map.specs.walk.Reads.{by_below}
@@ -8,24 +8,24 @@ use Rattle.std.specs.Prelude.{◌+◌, ◌-◌, ◌==◌, ◌&&◌, ◌∷◌, i
 
 -- The path of a sector
 
--- a step of it: a device, the start of the line that has the sector there, and the chunk of a striped line or of a snapshot
+-- one step of a path: a device, the start of the line with the sector, and the chunk of a striped line or of a snapshot
 pub record PathStep : Type 0 where
   pub device : ℕ
   pub start : ℕ
   pub chunk : Option ℕ
 
--- the step of a line, and the path of what lies below: none below zeros, errors and a snapshot that isn't valid
+-- the step of a line and then the path below it, which is empty below zeros, errors and an invalid snapshot
 abbrev pub line_path : State → (device : ℕ) → ResolvedLine → (distance : ℕ) → (next : Lower → ℕ → List PathStep) → List PathStep
 line_path state device line distance next =
     record { device = device; start = line.start; chunk = chunk_at line.target distance }
     ∷ by_below (below_target (read_over (taken_at state device)) line.target distance) [] [] next
 
--- the steps from a sector down, by the line that holds it: none where no line does
+-- the path of a sector, by the line that holds it; empty if no line does
 abbrev pub found_path : State → (device : ℕ) → Option ResolvedLine → (sector : ℕ) → (next : Lower → ℕ → List PathStep) → List PathStep
 found_path state device (Some line) sector next = line_path state device line (sector - line.start) next
 found_path state device None sector next = []
 
--- from the device down to a disk, through at most this many levels of devices
+-- the path of a sector from a device or a disk down to a disk, through at most this many levels of devices
 unfoldable pub path : Description → State → ℕ → Lower → ℕ → List PathStep
 path stack state levels (Disk disk) sector = []
 path stack state zero (Device device) sector = []
@@ -34,25 +34,25 @@ path stack state (suc levels) (Device device) sector =
 
 -- Stretches
 
--- one step: the same device, line and chunk
+-- two steps are on the same device, line and chunk
 abbrev pub is_same_step : PathStep → PathStep → Bool
 is_same_step step other = step.device == other.device && (step.start == other.start && is_same_chunk step.chunk other.chunk)
 
--- one path, step by step
+-- two paths have the same steps in the same order
 abbrev pub is_same_path : List PathStep → List PathStep → Bool
 is_same_path = pointwise is_same_step
 
--- how often the path changes from one sector to the next, len times on from a sector
+-- how often the path changes between neighbours among len + 1 sectors from this one on
 abbrev pub changes : (ℕ → List PathStep) → (sector len : ℕ) → ℕ
 changes paths sector zero = 0
 changes paths sector (suc len) = (if is_same_path (paths sector) (paths (suc sector)) then 0 else 1) + changes paths (suc sector) len
 
--- the longest runs of neighbouring sectors with one path, of len sectors: one more than there are changes
+-- the number of stretches in len sectors: one more than the changes of path between neighbours
 abbrev pub stretches : (ℕ → List PathStep) → (sector len : ℕ) → ℕ
 stretches paths sector zero = 0
 stretches paths sector (suc len) = suc (changes paths sector len)
 
--- the stretches of a read of a device's sectors, through all levels that a stack can have: none if it passes the device's end
+-- the number of stretches in a read of a device's sectors; 0 if the read passes the device's end
 abbrev pub read_stretches : Description → State → (device start len : ℕ) → ℕ
 read_stretches stack state device start len =
     if nat_lt (device_len stack device) (start + len) then 0 else stretches (path stack state MOST_DEPTH (Device device)) start len

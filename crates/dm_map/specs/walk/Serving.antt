@@ -1,4 +1,4 @@
--- What a write of an origin's sector does before it: the chunk of that sector is taken in each of its snapshots (the kernel's admin guide, device-mapper/snapshot).
+-- What a write to an origin does first: each snapshot of the origin takes the chunk of the sector (the kernel's admin guide, device-mapper/snapshot).
 use Rattle.dm_map.specs.Base.{ℕ, true, List, [], Some, AllByRecursion, ResolvedOver, Description, device_len}
 use Rattle.dm_map.specs.walk.SnapshotWrites.{is_settled, take_chunk}
 use Rattle.dm_map.specs.state.State.{State, taken_at}
@@ -6,26 +6,26 @@ use Rattle.dm_map.specs.walk.Steps.{Step, keep, and_then}
 use Rattle.dm_map.specs.state.Tables.{snapshot_at}
 use Rattle.std.specs.Prelude.{◌≡◌, ◌/◌, ◌<◌, ◌≤◌, ◌∷◌}
 
--- the chunk of a sector is taken in each of these snapshots, in their order
+-- each of these snapshots, in order, takes the chunk with this sector
 unfoldable pub serve : Description → List ResolvedOver → (sector : ℕ) → State → Step
 serve stack [] sector state = keep [] state
 serve stack (one ∷ over) sector state =
     and_then (take_chunk stack one.snapshot one.device (sector / one.snapshot.chunk) state) (λ after. serve stack over sector after)
 
--- nothing is left to do for the chunk of a sector in any of them
+-- in each of these snapshots the chunk with this sector is taken already, or the snapshot is lost
 abbrev pub AreSettled : State → List ResolvedOver → (sector : ℕ) → Type 0
 AreSettled state over sector = AllByRecursion (λ one. is_settled (taken_at state one.device) (sector / one.snapshot.chunk) ≡ true) over
 
--- the step of a sector of an origin's device, by that of the origin: they are served first
+-- the step of a sector of an origin's device: first its snapshots take the chunk, then comes the plain step
 abbrev pub served_step : Description → List ResolvedOver → (State → ℕ → Step) → State → (sector : ℕ) → Step
 served_step stack over plain state sector = and_then (serve stack over sector state) (λ after. plain after sector)
 
--- a snapshot of the stack, with at least this many sectors
+-- an entry of an origin's list of snapshots: its device is that snapshot, and has at least len sectors
 pub record IsOver (stack : Description) (len : ℕ) (one : ResolvedOver) : Type 0 where
   pub is : snapshot_at stack one.device ≡ Some one.snapshot
   pub long : len ≤ device_len stack one.device
 
--- the longest part, of at most limit from 0 on, for all of which the fact holds; it holds for 0
+-- part is the longest prefix of 0, 1, .. below limit for all of which P holds; it has at least one number
 pub record IsLongest (P : ℕ → Type 0) (limit part : ℕ) : Type 0 where
   pub some : 1 ≤ part
   pub most : part ≤ limit

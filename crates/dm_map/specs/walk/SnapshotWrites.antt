@@ -1,4 +1,4 @@
--- What a write of a snapshot's sector does (the kernel's admin guide, device-mapper/snapshot): its chunk is taken, and then the sector is written.
+-- What a write to a snapshot does (the kernel's admin guide, device-mapper/snapshot): take the sector's chunk, then write the sector.
 use Rattle.dm_map.specs.Base.{ℕ, zero, suc, Bool, true, false, not, List, [], length, Option, Some, None, is_some, min, Lower, ResolvedSnapshot, Description, device_len}
 use Rattle.dm_table.specs.declared.tables.table.StoreKind.{StoreKind}
 use Rattle.dm_table.specs.declared.tables.table.StoreKind.TheVariants.{Keeping}
@@ -11,67 +11,67 @@ use Rattle.dm_map.specs.walk.Steps.{Step, keep, and_then}
 use Rattle.dm_map.specs.pieces.Units.{BlockUnit, ReadOf, WriteOf, Fails, CopyOf, FillOf}
 use Rattle.std.specs.Prelude.{◌-◌, ◌*◌, ◌/◌, ◌&&◌, ◌||◌, ◌∷◌, if◌then◌else◌}
 
--- The sectors of a chunk, as far as the snapshot goes
+-- The sectors of a chunk, as far as the snapshot's device has them
 
 -- the first sector of a chunk
 abbrev pub first_of : ResolvedSnapshot → (chunk : ℕ) → ℕ
 first_of snapshot chunk = chunk * snapshot.chunk
 
--- how many sectors a chunk has: the last one of a device may be shorter
+-- the number of sectors in a chunk, which is less for the last one of a device if the device ends in it
 abbrev pub count_of : Description → ResolvedSnapshot → (device chunk : ℕ) → ℕ
 count_of stack snapshot device chunk = min snapshot.chunk (device_len stack device - first_of snapshot chunk)
 
--- what f gives for len sectors in a row
+-- the list of what f gives for len consecutive sectors
 abbrev pub row : {X : Type 0} → (ℕ → X) → (sector len : ℕ) → List X
 row f sector zero = []
 row f sector (suc len) = f sector ∷ row f (suc sector) len
 
--- the read of a sector; homes and these reads don't depend on how deep the snapshot is asked for
+-- the read of a sector, with as many levels as any stack can have, so that depth plays no part
 abbrev pub read : Description → State → Lower → ℕ → BlockUnit
 read stack state lower sector = read_unit stack state MOST_DEPTH lower sector
 
 -- Whether a chunk can be taken
 
--- a sector that fails
+-- the unit is an error
 abbrev pub is_error : BlockUnit → Bool
 is_error Fails = true
 is_error unit = false
 
--- one of these sectors fails
+-- at least one of these units is an error
 abbrev pub any_error : List BlockUnit → Bool
 any_error [] = false
 any_error (unit ∷ units) = is_error unit || any_error units
 
--- no sector reads as an error
+-- all of len sectors can be read without an error
 abbrev pub reads_all : Description → State → Lower → (sector len : ℕ) → Bool
 reads_all stack state lower sector len = not (any_error (row (read stack state lower) sector len))
 
 -- The copies of a chunk
 
--- the copy of a sector to a home, by what it reads: zeros are filled in, and no other unit is read
+-- the copy of one sector to its home in a store, by the unit that reads the sector: a disk's sector is copied, and anything else is filled with zeros
 abbrev pub copy_to : BlockUnit → Home → BlockUnit
 copy_to (ReadOf disk sector) to = CopyOf disk sector to.disk to.sector
 copy_to unit to = FillOf to.disk to.sector
 
--- where a sector of the chunk with this number is kept
+-- the disk sector in which a store keeps this sector of the taken chunk with this number
 abbrev pub home_in_store : Description → ResolvedSnapshot → (number sector : ℕ) → Home
 home_in_store stack snapshot number sector = home stack snapshot.store (store_sector snapshot number sector)
 
--- the copies of sectors in a row to where the chunk with this number keeps them
+-- the copies of len sectors from the origin to the places where the store keeps them
 abbrev pub copies : Description → State → ResolvedSnapshot → (number sector len : ℕ) → List BlockUnit
 copies stack state snapshot number sector len = row (λ s. copy_to (read stack state snapshot.origin s) (home_in_store stack snapshot number s)) sector len
 
--- A chunk is taken
+-- Taking a chunk
 
--- nothing is left to do for it: it is taken, or the snapshot is lost
+-- a write needs not take the chunk: it is taken already, or the snapshot is lost
 abbrev pub is_settled : Taken → (chunk : ℕ) → Bool
 is_settled taken chunk = not taken.valid || is_some (number_in chunk taken.chunks)
 
--- a chunk of these sectors can be taken: the store has a place for one more, and the origin has them
+-- the chunk can be taken: the store has room for one more, and the origin reads without errors
 abbrev pub can_take : Description → State → ResolvedSnapshot → (device sector len : ℕ) → Bool
 can_take stack state snapshot device sector len = has_place stack snapshot (length (taken_at state device).chunks) && reads_all stack state snapshot.origin sector len
 
--- nothing is done for a settled chunk; any other is copied and taken where it can be, and else the snapshot is lost, as it is where its store is full
+-- take a chunk: copy it to the store and list it, or lose the snapshot if there is no room or the origin has an error; nothing happens if the chunk is settled
 abbrev pub take_chunk : Description → ResolvedSnapshot → (device chunk : ℕ) → State → Step
 take_chunk stack snapshot device chunk state =
     let taken = taken_at state device in
@@ -82,37 +82,37 @@ take_chunk stack snapshot device chunk state =
 
 -- Whether a write is refused
 
--- a store that fails a write for which it has no room, and stays valid
+-- a store of a kind that, when full, fails the write and keeps its snapshot valid
 abbrev pub is_keeping : StoreKind → Bool
 is_keeping Keeping = true
 is_keeping kind = false
 
--- a keeping store, which no kernel has, has no place for a chunk that would have to be taken: the write fails, and nothing changes
+-- a write to a snapshot is refused: its store is full and of a keeping kind (which no kernel has), and the chunk is not taken yet
 abbrev pub is_refused : Description → ResolvedSnapshot → Taken → (chunk : ℕ) → Bool
 is_refused stack snapshot taken chunk = is_keeping snapshot.kind && (not (has_place stack snapshot (length taken.chunks)) && not (is_settled taken chunk))
 
--- And then the sector is written
+-- The write itself
 
--- a write to where a sector is kept
+-- the write of a sector at its home on a disk
 abbrev pub write_to : Home → BlockUnit
 write_to to = WriteOf to.disk to.sector
 
--- writes of sectors of a store in a row
+-- the writes of len consecutive sectors of a store
 abbrev pub store_writes : Description → Lower → (sector len : ℕ) → List BlockUnit
 store_writes stack store sector len = row (λ s. write_to (home stack store s)) sector len
 
--- a write of a sector of the chunk with this number: it fails where the chunk isn't taken
+-- the write of a sector, given the number of its chunk; an error if the chunk isn't taken
 abbrev pub write_numbered : Description → ResolvedSnapshot → Option ℕ → (sector : ℕ) → BlockUnit
 write_numbered stack snapshot (Some number) sector = write_to (home_in_store stack snapshot number sector)
 write_numbered stack snapshot None sector = Fails
 
--- a write of a sector of a snapshot, by the chunks that it took: it fails where the snapshot is invalid
+-- the write of a sector in the snapshot's store; an error if the snapshot is invalid or the chunk isn't taken
 abbrev pub unit_in_store : Description → ResolvedSnapshot → (device : ℕ) → State → (sector : ℕ) → BlockUnit
 unit_in_store stack snapshot device state sector =
     let taken = taken_at state device in
     if taken.valid then write_numbered stack snapshot (number_in (sector / snapshot.chunk) taken.chunks) sector else Fails
 
--- a write of a sector of a snapshot: it fails where it is refused, and takes its chunk first where that isn't taken yet
+-- the write of a sector of a snapshot: an error if it is refused, else the chunk is taken first if needed
 abbrev pub write_snapshot : Description → ResolvedSnapshot → (device : ℕ) → State → (sector : ℕ) → Step
 write_snapshot stack snapshot device state sector =
     if is_refused stack snapshot (taken_at state device) (sector / snapshot.chunk) then keep (Fails ∷ []) state

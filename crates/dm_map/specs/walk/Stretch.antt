@@ -1,4 +1,4 @@
--- What a stretch is read from.
+-- Grounds: where a stretch of sectors is read, which is a disk, zeros, or errors.
 use Rattle.dm_map.specs.Base.{ℕ, Read, Lower, Description}
 use Rattle.dm_stack.specs.declared.checks.limits.TheConstants.{MOST_LENGTH}
 use Rattle.dm_map.specs.declared.walk.stretch.Ground.{Ground}
@@ -13,19 +13,19 @@ use Rattle.dm_map.specs.state.Walker.{WalkerView, stack_state}
 use Rattle.dm_map.specs.walk.Range.{range_step}
 use Rattle.std.specs.Prelude.{◌≡◌, ◌+◌, ◌<◌, ◌≤◌}
 
--- what the first sector of a stretch reads
+-- the unit of the first sector that is read from a ground
 abbrev pub ground_unit : Ground → BlockUnit
 ground_unit (grounds.Disk disk start) = ReadOf disk start
 ground_unit grounds.Zeros = Zeros
 ground_unit grounds.Fails = Fails
 
--- where it is a disk, that is one of the stack, and has len sectors from there on
+-- if the ground is a disk, the stack has it, and it has len sectors from there on
 abbrev pub IsGroundInStack : Description → Ground → (len : ℕ) → Type 0
 IsGroundInStack stack (grounds.Disk disk start) len = IsOnDisk stack disk start len
 IsGroundInStack stack grounds.Zeros len = Unit {0}
 IsGroundInStack stack grounds.Fails len = Unit {0}
 
--- a stretch is a beginning of a range of len sectors, all read from its ground, and finding it changed nothing but the counts; reads gives the step of so many first sectors of the range
+-- the stretch is a prefix of a range of len sectors, all read from one ground; finding it changed only the counts. `reads n` is the step of the first n sectors
 pub record IsFirst (before after : WalkerView) (reads : ℕ → Step) (len : ℕ) (stretch : Stretch) : Type 0 where
   pub some : 1 ≤ stretch.len
   pub most : stretch.len ≤ len
@@ -34,24 +34,24 @@ pub record IsFirst (before after : WalkerView) (reads : ℕ → Step) (len : ℕ
   pub same : stack_state after ≡ stack_state before
   pub looked : AreAdded before.looked after.looked
 
--- a stretch is the first of a range of a device or a disk, through at most this many levels of devices
+-- the stretch is a prefix of a range of a device or a disk, read through at most this many levels of devices
 abbrev pub IsFirstOf : (before after : WalkerView) (levels : ℕ) → Lower → (sector len : ℕ) → Stretch → Type 0
 IsFirstOf before after levels lower sector len stretch = IsFirst before after (range_step before.stack Read levels lower before.state sector) len stretch
 
--- what a sector of a ground reads, at a distance from its first one
+-- the unit of the sector at this distance from the first one of a ground
 abbrev pub unit_at : Ground → (distance : ℕ) → BlockUnit
 unit_at (grounds.Disk disk start) distance = ReadOf disk (start + distance)
 unit_at grounds.Zeros distance = Zeros
 unit_at grounds.Fails distance = Fails
 
--- the first sectors of a range of len of a device or a disk are read from this ground in this state, one after the other
+-- the first sectors of a range of a device or a disk are read in this state from this ground, one after the other
 pub record IsFirstRead (stack : Description) (state : State) (lower : Lower) (sector len : ℕ) (first : Stretch) : Type 0 where
   pub some : 1 ≤ first.len
   pub most : first.len ≤ len
   pub units : (i : ℕ) → i < first.len → read stack state lower (sector + i) ≡ unit_at first.ground i
   pub lies : IsGroundInStack stack first.ground first.len
 
--- where it is a disk, these sectors of it are small numbers
+-- if the ground is a disk, its sectors up to the end are at most `MOST_LENGTH`
 abbrev pub IsGroundNear : Ground → (len : ℕ) → Type 0
 IsGroundNear (grounds.Disk disk start) len = start + len ≤ MOST_LENGTH
 IsGroundNear grounds.Zeros len = Unit {0}

@@ -1,15 +1,15 @@
-//! The law that requests of top devices leave the lists of stores alone.
+//! A law that requests to top devices neither read nor write the lists of stores.
 
 ghost use Rattle.dm_map.specs.Prelude.{LeaveLists};
 
 use dm_stack::Stack;
 
-/// Where no claims meet, no unit of a request of a top device writes to the header or to an area of a
-/// store, also where only its first units were played, and no read of a top device comes there. So what
-/// lists say changes only where a store enters a chunk. It does nothing and returns nothing: its contract is the law.
+/// States that if no claims clash, no request to a top device writes to the header or a metadata area of a store,
+/// even if it is halted part-way, and no read of a top device gets there. So a list changes only when its store
+/// enters a chunk. The function does nothing; its contract is the law.
 pub fn lists_are_left<V>(stack: &Stack)
     ensures { LeaveLists V stack.now }
 {
-    // Called because its contract says that the stack is sound.
+    // The contract of `depth` says that the stack is sound.
     stack.depth();
 }

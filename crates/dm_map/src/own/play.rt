@@ -1,10 +1,10 @@
-//! Laws of what units make of disks, for values of any type.
+//! Laws of how units change the values of disks, for values of any type.
 
 ghost use Rattle.dm_map.specs.Prelude.{ℕ, List, false, AllByRecursion, Values, answers, played, BlockUnit};
 ghost use Rattle.std.specs.Prelude.{◌≡◌, ◌++◌};
 
-/// Copies and fills before other units are played first, from values that count sector by sector
-/// alone. It does nothing: its contract is the law.
+/// States that leading copies and fills can be applied to the values first and the other units after them, and
+/// that the result depends only on the value of each sector. The function does nothing; its contract is the law.
 #[tactic(auto, using(crate::proofs::own::Plays::played_on, crate::specs::laws::Contents::played_cong))]
 pub fn play_goes_on<V>()
     ensures after { (zeros : V) (written : ℕ → V) (sector : ℕ) (front rest : List BlockUnit)

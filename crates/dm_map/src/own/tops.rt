@@ -1,18 +1,17 @@
-//! The law that no top device sees what another one writes.
+//! A law that no write to a top device changes what another top device reads.
 //!
-//! Top devices are those that nothing else of the stack is made of. Where no claims meet, each of
-//! them is like a disk of its own: a write of one of them changes what is read of the sector that it
-//! writes, and of no other, whatever it copies on its way. Each sector may become an error, where
-//! its snapshot is lost.
+//! A top device is one that no line of the stack refers to. If no claims clash, each top device is like a disk of
+//! its own: a write changes what is read from the written sector and from no other sector of any top device,
+//! whatever it copies on its way. Any sector may become an error if its snapshot is lost.
 
 ghost use Rattle.dm_map.specs.Prelude.{ℕ, Device, IsTidy, IsTop, IsFitting, IsOwnWrite, write, State, start_state};
 
 use dm_stack::Stack;
 
-/// The write of a sector of a top device of a tidy stack, in a state that the stack can be in. Up to
-/// its last unit it changes nothing of what top devices have, also where it is halted; and what its
-/// last unit writes is read at that sector, and at no other of a top device. The values that sectors
-/// have are of any type. It does nothing and returns nothing: its contract is the law.
+/// States what the write of one sector of a top device does, in a stack without clashing claims and any state
+/// that the stack can be in. Before its last unit, no top device reads differently, even if the write is halted
+/// there; the value that the last unit writes is read at that sector and at no other sector of a top device.
+/// Values are of any type. The function does nothing; its contract is the law.
 #[tactic(auto, using(crate::proofs::own::OwnWrites::own_write, crate::proofs::own::OwnWrites::start_fits))]
 pub fn tops_are_alone<V>(stack: &Stack)
     ensures start { IsFitting stack.now (start_state stack.now) }
@@ -21,6 +20,6 @@ pub fn tops_are_alone<V>(stack: &Stack)
         → IsOwnWrite zeros written stack.now state top sector
         (write stack.now state (Device top) sector) }
 {
-    // Called because its contract says that the stack is sound.
+    // The contract of `depth` says that the stack is sound.
     stack.depth();
 }

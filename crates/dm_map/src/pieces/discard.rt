@@ -1,10 +1,10 @@
-//! The sink that does nothing: for requests that are mapped for the state that they leave.
+//! A sink that ignores all pieces, for requests that are mapped only to change the state.
 
 use crate::pieces::piece::Piece;
 use crate::pieces::sink::Sink;
 use dm_stack::Stack;
 
-/// A sink that takes every piece and does nothing with it.
+/// A sink that accepts every piece and does nothing with it.
 #[derive(Drop)]
 pub struct Discard<'s> {
     pub stack: &'s Stack,
@@ -25,7 +25,7 @@ impl Sink for Discard<'_> {
       left = λ old units new. ⊥;
     } };
 
-    /// Does nothing, and never fails.
+    /// Ignores the piece, and never fails.
     fn piece(&mut self, _piece: Piece) -> Result<(), ()> {
         Ok(())
     }

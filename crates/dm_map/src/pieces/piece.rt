@@ -1,7 +1,7 @@
-//! Pieces: what becomes of consecutive sectors.
+//! Pieces: one operation on consecutive sectors.
 //!
-//! A piece is short for a list of units, one for each sector; clauses speak of the units alone. A new
-//! kind of piece is a variant here, with arms of `len` and `with_len`, and an arm of each function in
+//! A piece stands for a list of units, one for each sector, and contracts speak only of units. To add a kind of
+//! piece, add a variant here, arms in `len` and `with_len`, and a clause in each function of
 //! `specs/pieces/Units.antt`.
 
 ghost use Rattle.dm_map.specs.Prelude.{Description, disk_unit, diskless_len, first_unit, piece_len, units_in, units_of, IsOnDisk, IsOnDisks};
@@ -10,36 +10,34 @@ ghost use Rattle.std.specs.Prelude.{◌≡◌};
 use dm_stack::DiskId;
 use dm_table::Op;
 
-/// What becomes of `len` consecutive sectors of a request. Starts and lengths are in sectors of 512
-/// bytes.
+/// An operation on `len` consecutive sectors of a request. Starts and lengths are in sectors of 512 bytes.
 #[derive(Clone, Copy, Debug, PartialEq, Eq, Drop)]
 pub enum Piece {
-    /// They are read from a disk, from `start` on.
+    /// The sectors are read from a disk, from `start` on.
     Read {
         disk: DiskId,
         start: u64,
         len: u64,
     },
-    /// They are written to a disk, from `start` on.
+    /// The sectors are written to a disk, from `start` on.
     Write {
         disk: DiskId,
         start: u64,
         len: u64,
     },
-    /// They read as zeros.
+    /// The sectors read as zeros.
     Zero {
         len: u64,
     },
-    /// What is written to them is thrown away.
+    /// What is written to the sectors is discarded.
     Drop {
         len: u64,
     },
-    /// They fail.
+    /// The read or the write of the sectors fails.
     Error {
         len: u64,
     },
-    /// Before a write, sectors of a disk from `start` on are copied to the disk `to`, from
-    /// `to_start` on.
+    /// Before a write, `len` sectors of a disk from `start` on are copied to the disk `to`, from `to_start` on.
     Copy {
         disk: DiskId,
         start: u64,
@@ -47,7 +45,7 @@ pub enum Piece {
         to: DiskId,
         to_start: u64,
     },
-    /// Before a write, zeros are written to a disk, from `start` on.
+    /// Before a write, zeros are written to `len` sectors of a disk, from `start` on.
     Fill {
         len: u64,
         disk: DiskId,
@@ -56,7 +54,7 @@ pub enum Piece {
 }
 
 impl Piece {
-    /// How many sectors it has.
+    /// The number of sectors.
     #[inline(always)]
     pub fn len(&self) -> u64
         ensures { result ≡ piece_len self.now }
@@ -72,7 +70,7 @@ impl Piece {
         }
     }
 
-    /// The piece of `len` sectors that begins as this one does.
+    /// The piece with the same kind, disk and start, but `len` sectors.
     #[inline(always)]
     pub fn with_len(&self, len: u64) -> Piece
         ensures first { first_unit result ≡ first_unit self.now }
@@ -102,8 +100,8 @@ impl Piece {
     }
 }
 
-/// What is done at sectors of a disk. The sink's code is put in line after this, and where the two kinds
-/// come from an `if`, it has no jump by a table of all kinds.
+/// The piece for a read or a write of sectors of a disk. Since the kind comes from an `if`, the sink's code, when
+/// inlined after it, needs no jump table over all kinds.
 pub(crate) fn disk_piece(op: Op, disk: DiskId, start: u64, len: u64) -> Piece
     ensures units { units_of result ≡ units_in (disk_unit op disk start) len }
     ensures len { piece_len result ≡ len }

@@ -1,7 +1,7 @@
-//! Lists of pieces: a sink that keeps what it takes.
+//! A sink that keeps all pieces in a list.
 //!
-//! For callers that want all pieces at once, as tests do. It joins nothing, so its pieces are
-//! exactly those that it was given; its relations are the plainest that a sink can have.
+//! For callers that want all pieces of a request at once, such as tests. No pieces are joined, so the list is
+//! exactly what was handed over, and its laws are the simplest that a sink can have.
 
 ghost use Rattle.dm_map.specs.Prelude.{[]};
 ghost use Rattle.std.specs.Prelude.{◌≡◌};
@@ -13,7 +13,7 @@ use dm_table::Tally;
 use std::alloc::{AllocError, Global};
 use std::marker::Model;
 
-/// The pieces that it was given, in order.
+/// The pieces handed over so far, in order.
 #[derive(Drop)]
 pub struct PieceList<'s> {
     stack: &'s Stack,
@@ -31,7 +31,7 @@ impl<'s> Model for PieceList<'s> {
 }
 
 impl<'s> PieceList<'s> {
-    /// An empty list, for a mapper of this stack. No memory is taken.
+    /// Makes an empty list for a mapper of this stack. No memory is allocated.
     pub fn new(alloc: Global, stack: &'s Stack) -> PieceList<'s>
         ensures stack { result.stack ≡ stack.now }
         ensures pieces { result.pieces ≡ [] }
@@ -44,7 +44,7 @@ impl<'s> PieceList<'s> {
         }
     }
 
-    /// The pieces in the order in which they were taken.
+    /// The pieces in the order in which they were handed over.
     pub fn as_slice(&self) -> &[Piece]
         ensures { result.now ≡ self.now.pieces }
     {
@@ -70,7 +70,7 @@ impl Sink for PieceList<'_> {
       left = OfBeginning Appends;
     } };
 
-    /// Keeps the piece, or none of it if an allocation is refused.
+    /// Appends the piece; if memory runs out, the list stays as it is.
     fn piece(&mut self, piece: Piece) -> Result<(), AllocError> {
         match self.pieces.push(piece) {
             Ok(()) => Ok(()),

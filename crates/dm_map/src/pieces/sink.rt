@@ -1,7 +1,7 @@
-//! Sinks: what takes the pieces of requests.
+//! Sinks, to which a mapper hands the pieces of requests.
 //!
-//! A mapper hands over its pieces one by one and keeps none, so requests take no memory. A sink may
-//! join pieces as it likes: its relations speak of units, which are the same however they are cut.
+//! A mapper hands over each piece as it finds it and keeps none, so requests allocate nothing. A sink may join
+//! pieces as it likes: contracts speak of units, which are the same however a range is cut.
 
 ghost use Rattle.dm_map.specs.Prelude.{AreOnDisks, AreHanded, IsHanded, IsLawful, SinkPast, legs_units, units_of, piece_len, diskless_len, IsOnDisks};
 ghost use Rattle.std.specs.Prelude.{◌≤◌};
@@ -10,26 +10,26 @@ use crate::pieces::piece::{Piece, disk_piece};
 use dm_stack::Legs;
 use dm_table::Op;
 
-/// What takes the pieces of requests.
+/// Receives the pieces of requests.
 pub trait Sink {
-    /// Why a piece was refused.
+    /// Why a piece could not be accepted.
     type Fault: Drop;
 
-    /// Its stack, the room for a piece without a disk, how many pieces it has failed at so far, and which
-    /// units it took, or failed at, between two states of it.
+    /// What contracts see of a sink: its stack, its room for pieces without a disk, how many pieces it has failed
+    /// at, and which units it received, or failed at, between two of its states.
     ghost past: { SinkPast Self };
 
-    /// Takes a piece of at least one sector, which lies on the disks of the sink's stack. A piece
-    /// without a disk fits into the room, and lowers it by at most its length; other pieces don't
-    /// lower it.
+    /// Receives a piece of at least one sector, whose disks are those of the sink's stack. A piece without a disk
+    /// must fit into the room, and reduces it by at most its length; other pieces don't reduce it.
     fn piece(&mut self, piece: Piece) -> Result<(), Self::Fault>
         requires some { 1 ≤ piece_len piece }
         requires lies { IsOnDisks (past.view self.old).stack piece }
         requires room { diskless_len piece ≤ (past.view self.old).room }
         ensures { IsHanded past result self.old self.new (units_of piece) (diskless_len piece) };
 
-    /// Takes the legs that are left of a striped line, which lie on disks of the sink's stack. It is the
-    /// same as to take a piece for each of them, in their order; a sink may do that in one go.
+    /// Receives all legs of a striped line that `legs` has not returned yet, which lie on disks of the sink's
+    /// stack. By default each becomes a piece, in order; a sink may handle them all at once, with the same
+    /// effect.
     fn disk_legs(&mut self, op: Op, mut legs: Legs<'_>) -> Result<(), Self::Fault>
         requires { AreOnDisks (past.view self.old).stack legs }
         ensures { AreHanded past result self.old self.new (legs_units op legs.entry) }
@@ -41,6 +41,6 @@ pub trait Sink {
         Ok(())
     }
 
-    /// What it took or failed at in turn, it took or failed at in all.
+    /// Received units add up: two lists received in turn are one list received.
     ghost lawful: { IsLawful past };
 }

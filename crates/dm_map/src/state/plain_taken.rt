@@ -1,7 +1,7 @@
-//! Taken chunks as a list: the plainest way to keep them.
+//! Taken chunks in a plain list, the simplest implementation of `Taken`.
 //!
-//! A chunk is found by a walk over those that were taken, so it suits snapshots with few of them.
-//! All memory is reserved when the list is made.
+//! A look-up walks over all chunks taken so far, which suits snapshots that took few. All memory is reserved when
+//! the list is made.
 
 ghost use Rattle.dm_map.specs.Base.{length, nat_eq, IsDistinct, IsDistinct-prop};
 ghost use Rattle.dm_map.specs.state.Snapshots.{number_in};
@@ -14,7 +14,7 @@ use std::alloc::{AllocError, Global};
 #[cfg(test)]
 mod tests;
 
-/// The chunks in the order in which they were taken.
+/// The chunks that a snapshot took, in the order in which it took them.
 #[derive(Drop)]
 pub struct PlainTaken {
     chunks: Reserved<u64>,
@@ -69,7 +69,7 @@ impl Taken for PlainTaken {
     ghost once = { λ taken. taken.once };
 }
 
-/// The index of a chunk in a list.
+/// The index of the first equal chunk in a list, if there is one.
 fn number_of(chunks: &[u64], chunk: u64) -> Option<usize>
     ensures { result ≡ number_in chunk chunks.now }
 {

@@ -1,8 +1,8 @@
-//! Taken chunks as sorted runs: few where many chunks were taken in a row.
+//! Taken chunks as sorted runs, which are few if many neighbouring chunks are taken in a row.
 //!
-//! A run is a row of chunks that were taken one after the other, so its chunks and their numbers are
-//! neighbours. The runs lie in the order of their chunks, in which the run of a chunk is found by
-//! halving. Each says the number of its first chunk.
+//! A run is a range of consecutive chunks that were taken one after the other, so that their numbers are
+//! consecutive, too. Runs are sorted by chunk and found by binary search; each stores the number of its first
+//! chunk.
 
 ghost use Rattle.dm_map.specs.Base.{[], None, MatchBool, length, nat_eq, IsDistinct, IsDistinct-prop, binary_digits};
 ghost use Rattle.std.proofs.Props.{props};
@@ -21,14 +21,13 @@ use crate::state::taken::Taken;
 use dm_table::{GhostList, Reserved};
 use std::alloc::{AllocError, Global};
 
-/// The chunks as runs.
+/// The chunks that a snapshot took, as runs.
 ///
-/// A chunk is found by at most as many comparisons as the number of runs has binary digits. `take`
-/// lengthens a run, or puts a new one between those that there are, which moves all after it. All
-/// memory is reserved by `with_places`.
+/// A look-up takes at most as many comparisons as the number of runs has binary digits. `take` lengthens a run or
+/// inserts a new one, which moves all later runs. `with_places` reserves all memory.
 #[derive(Drop)]
 pub struct RunTaken {
-    /// The chunks one by one, for proofs alone.
+    /// The chunks one by one; exists for proofs only.
     chunks: GhostList<u64>,
     runs: Reserved<Run>,
     count: usize,
@@ -44,18 +43,18 @@ pub struct RunTaken {
 }
 
 impl RunTaken {
-    /// How many runs there are: how many numbers are 0, or have a chunk other than one more than the
-    /// chunk of the number before. In constant time.
+    /// The number of runs: how often a chunk was taken that isn't one more than the chunk taken just before.
+    /// Takes constant time.
     pub fn runs(&self) -> usize
         ensures { result ≡ run_count (⟦<RunTaken as Taken>⟧.chunks self.now) }
     {
         self.runs.len()
     }
 
-    /// The number of a chunk that was taken, from 0, as `find` answers it.
+    /// The number of a taken chunk, counted from 0 in the order of taking, as `find` returns it.
     ///
-    /// To `comparisons` it adds how often the chunk was compared with the first chunk of a run: at most
-    /// as many times as the number of runs has binary digits. Once it is the greatest number, it stays.
+    /// Adds to `comparisons` how often the chunk was compared with the first chunk of a run: at most once for
+    /// each binary digit of the number of runs. The sum stays at `u64::MAX` once it gets there.
     pub fn find_counted(&self, chunk: u64, comparisons: &mut u64) -> Option<usize>
         ensures found { result ≡ number_in chunk (⟦<RunTaken as Taken>⟧.chunks self.now) }
         ensures more { comparisons.old ≤ comparisons.new }
@@ -78,8 +77,7 @@ impl RunTaken {
     }
 }
 
-/// Whether the last run that begins at a chunk or before it goes on with this chunk, as that of the next
-/// number.
+/// Whether this chunk, with this number, continues the last run that starts at the chunk or before it.
 fn goes_on(runs: &[Run], chunks: &GhostList<u64>, begun: usize, chunk: u64, number: usize) -> bool
     requires kept { AreRuns runs.now chunks.now.items }
     requires number { number ≡ length chunks.now.items }
@@ -95,7 +93,7 @@ fn goes_on(runs: &[Run], chunks: &GhostList<u64>, begun: usize, chunk: u64, numb
     chunk - run.first == run.len && run.number + run.len as usize == number
 }
 
-/// Takes a chunk as that of the next number: it lengthens a run, or is one.
+/// Takes a chunk under the next number, by lengthening a run or inserting a new one.
 fn take_next(runs: &mut Reserved<Run>, chunks: &GhostList<u64>, chunk: u64, number: usize)
     requires kept { AreRuns runs.old.items chunks.now.items }
     requires number { number ≡ length chunks.now.items }

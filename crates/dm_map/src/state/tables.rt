@@ -1,4 +1,4 @@
-//! The tables of a stack: what a mapper keeps of its snapshots.
+//! The tables of a mapper: for each device of a stack, the chunks that it took.
 //!
 //! All memory for taken chunks is reserved here, before the first request.
 
@@ -11,12 +11,12 @@ use dm_stack::{DeviceId, Looker, ResolvedTarget, place_count};
 use dm_table::Reserved;
 use std::alloc::{AllocError, Global};
 
-/// A table for each device of the looker's stack, with nothing taken: for a snapshot with the places
-/// that its store has, for any other device with none. Each snapshot is looked up once.
+/// Makes an empty table for each device of the looker's stack: with as many places as its store has for a
+/// snapshot, with none for any other device. Each snapshot is looked up once.
 ///
 /// # Errors
 ///
-/// `AllocError` where it is out of memory.
+/// `AllocError` if there is not enough memory.
 pub(crate) fn empty_tables<T: Taken>(
     alloc: Global,
     looker: &mut Looker<'_>,
@@ -38,7 +38,7 @@ pub(crate) fn empty_tables<T: Taken>(
     Ok(Reserved::from_vec(tables))
 }
 
-/// `count` tables, each without a place.
+/// Makes `count` tables that have no place for a chunk.
 fn tables_without_places<T: Taken>(alloc: Global, count: usize) -> Result<Vec<T>, AllocError>
     ensures count { IfOk result (λ tables. length tables.items ≡ count) }
     ensures places { IfOk result (λ tables. All (λ table. T.places table ≡ 0) tables.items) }
@@ -52,8 +52,8 @@ fn tables_without_places<T: Taken>(alloc: Global, count: usize) -> Result<Vec<T>
     Ok(tables)
 }
 
-/// For how many chunks the store of a device has places, and how many chunks the device has, if it is a snapshot;
-/// else none.
+/// For a snapshot, the number of chunks that its store has room for, and the number of chunks in its device; 0
+/// and 0 for any other device.
 fn room_of(looker: &mut Looker<'_>, device: DeviceId) -> (usize, u64)
     requires { device < length looker.old.stack.devices }
     ensures places { (number : ℕ) → nat_lt number result.0 ≡ has_room looker.old.stack device number }
@@ -62,7 +62,7 @@ fn room_of(looker: &mut Looker<'_>, device: DeviceId) -> (usize, u64)
     ensures stack { looker.new.stack ≡ looker.old.stack }
     ensures one { looker.new.searches ≤ looker.old.searches + 1 }
 {
-    // Called because its contract says that the stack is sound.
+    // The contract of `depth` says that the stack is sound.
     looker.depth();
     match &looker.look(device, 0).target {
         ResolvedTarget::Snapshot(snapshot) => {

@@ -1,9 +1,9 @@
-//! Taken chunks: which chunks of a snapshot its store has.
+//! Taken chunks: the chunks that a snapshot's exception store holds.
 //!
-//! A mapper keeps one of these for each device. The trait is the contract of the state: a list of
-//! chunks in the order in which they were taken, each at most once, a number of places for them, and
-//! whether the snapshot is still valid. A way to keep them is an implementation; `PlainTaken` is the
-//! plainest. A chunk's number, its index in that list, says where in the store it is.
+//! A mapper keeps one `Taken` for each device. Contracts see it as a list of chunks in the order in which they
+//! were taken, each at most once, with a number of places and whether the snapshot is valid. Implementations may
+//! keep this in any form; `PlainTaken` is the simplest. A chunk's index in the list, its number, determines where
+//! in the store it is.
 
 ghost use Rattle.dm_map.specs.Base.{ℕ, [], Bool, true, false, List, None, is_none, length, nat_eq, IfOk, IsDistinct};
 ghost use Rattle.dm_map.specs.state.Snapshots.{number_in};
@@ -11,33 +11,34 @@ ghost use Rattle.std.specs.Prelude.{◌≡◌, ◌<◌, ◌≤◌, ◌==◌, ◌
 
 use std::alloc::{AllocError, Global};
 
-/// The chunks that a snapshot took, and whether it is valid.
+/// Keeps the chunks that a snapshot took, and whether it is valid.
 pub trait Taken: Drop + Sized {
     /// The chunks, in the order in which they were taken.
     ghost chunks: { Self → List ℕ };
 
-    /// How many there can be.
+    /// The most chunks that can be kept.
     ghost places: { Self → ℕ };
 
     /// Whether the snapshot is valid.
     ghost valid: { Self → Bool };
 
-    /// Nothing taken, valid, with this many places. It takes all the memory that later calls need.
+    /// Makes an empty one for a valid snapshot, with this many places, and allocates all memory that later calls
+    /// use.
     ///
     /// # Errors
     ///
-    /// `AllocError` where it is out of memory.
+    /// `AllocError` if there is not enough memory.
     fn with_places(alloc: Global, count: usize) -> Result<Self, AllocError>
         ensures chunks { IfOk result (λ taken. chunks taken ≡ []) }
         ensures places { IfOk result (λ taken. places taken ≡ count) }
         ensures valid { IfOk result (λ taken. valid taken ≡ true) };
 
-    /// As `with_places`, for a snapshot that has so many chunks: where they are fewer than the places, less memory
-    /// may do. Whichever chunks come, they are taken all the same.
+    /// Like `with_places`, for a snapshot with so many chunks. If it has fewer chunks than places, less memory
+    /// may be enough. Chunks past the snapshot's end can be taken nevertheless.
     ///
     /// # Errors
     ///
-    /// `AllocError` where it is out of memory.
+    /// `AllocError` if there is not enough memory.
     fn for_chunks(alloc: Global, count: usize, _chunks: u64) -> Result<Self, AllocError>
         ensures chunks { IfOk result (λ taken. chunks taken ≡ []) }
         ensures places { IfOk result (λ taken. places taken ≡ count) }
@@ -46,21 +47,21 @@ pub trait Taken: Drop + Sized {
         Self::with_places(alloc, count)
     }
 
-    /// The number of a chunk that was taken, from 0.
+    /// The number of a chunk, counted from 0 in the order of taking; None if it isn't taken.
     fn find(&self, chunk: u64) -> Option<usize>
         ensures { result ≡ number_in chunk (chunks self.now) };
 
-    /// Reads what `find` reads first for a chunk, so that it is in the cache by then. What it read is returned,
-    /// since a read of which nothing comes is left out; it says nothing of the chunk.
+    /// Reads the memory that `find` would read first for this chunk, so that it is in the cache by then. The
+    /// value read is returned only to keep the compiler from dropping the read; it says nothing about the chunk.
     fn prefetch(&self, _chunk: u64) -> u64 {
         0
     }
 
-    /// How many chunks were taken.
+    /// The number of chunks taken so far.
     fn count(&self) -> usize
         ensures { result ≡ length (chunks self.now) };
 
-    /// Whether no place is left.
+    /// Whether all places are used.
     fn is_full(&self) -> bool
         ensures { result ≡ (length (chunks self.now) == places self.now) };
 
@@ -68,7 +69,7 @@ pub trait Taken: Drop + Sized {
     fn is_valid(&self) -> bool
         ensures { result ≡ valid self.now };
 
-    /// Takes a chunk that was not taken, while a place is left and the snapshot is valid.
+    /// Takes a chunk that isn't taken yet. A place must be left, and the snapshot must be valid.
     fn take(&mut self, chunk: u64)
         requires valid { valid self.old ≡ true }
         requires room { length (chunks self.old) < places self.old }
@@ -77,8 +78,8 @@ pub trait Taken: Drop + Sized {
         ensures places { places self.new ≡ places self.old }
         ensures valid { valid self.new ≡ true };
 
-    /// Takes a chunk unless it was taken, while a place is left and the snapshot is valid, and says whether it
-    /// took it.
+    /// Takes a chunk unless it is taken already, and returns whether it took it. A place must be left, and the
+    /// snapshot must be valid.
     fn offer(&mut self, chunk: u64) -> bool
         requires valid { valid self.old ≡ true }
         requires room { length (chunks self.old) < places self.old }
@@ -95,13 +96,13 @@ pub trait Taken: Drop + Sized {
         true
     }
 
-    /// Makes the snapshot invalid, for good.
+    /// Makes the snapshot invalid for good; its chunks stay.
     fn invalidate(&mut self)
         ensures chunks { chunks self.new ≡ chunks self.old }
         ensures places { places self.new ≡ places self.old }
         ensures valid { valid self.new ≡ false };
 
-    /// There are no more chunks than places.
+    /// The number of taken chunks is at most the number of places.
     ghost fits: { (taken : Self) → length (chunks taken) ≤ places taken };
 
     /// No chunk is taken twice.

@@ -1,12 +1,12 @@
-//! Taken chunks as a trie: for snapshots with many of them, in whatever order.
+//! Taken chunks in a trie, for snapshots that take many chunks in any order.
 //!
-//! The chunks lie in the order in which they were taken. A table, by the slot of a chunk, and below it
-//! forks that test one bit each, lead from a chunk to the number of the only one that it may be. A
-//! chunk whose way ends at another one's number puts a fork there; nothing else is ever moved.
+//! Chunks are kept in the order in which they were taken. A look-up starts at the chunk's slot in a table,
+//! follows forks that test one bit each, and ends at the number of the only taken chunk that can be equal. To
+//! take a chunk that ends at another one's number, a fork is put there; nothing else ever moves.
 //!
-//! Slots of their own, and what is read ahead, are here for speed alone: RESULTS.md has their gain as *chunks in slots
-//! of their own*, *batches and reading ahead* and *links of a batch read in a row*. Measure random first writes before
-//! and after a change.
+//! Own slots and reading ahead are here for speed alone: RESULTS.md has their gain as *chunks in slots of their
+//! own*, *batches and reading ahead* and *links of a batch read in a row*. If you change them, measure random
+//! first writes before and after.
 
 ghost use Rattle.dm_map.specs.Base.{[], None, true, length, nat_eq, replicate, vec_capacity, IfOk, OnOk, IsDistinct, bit_at, IsDistinct-prop, Empty, Number};
 ghost use Rattle.dm_map.specs.state.Snapshots.{number_in};
@@ -24,30 +24,30 @@ use crate::state::trie_taken::slots::Slots;
 use dm_table::Reserved;
 use std::alloc::{AllocError, Global};
 
-/// How many places there can be, so that the index of each link fits a fork.
+/// The most places of a trie, so that the index of every link fits into a fork.
 const MOST_PLACES: usize = 1 << 23;
 
-/// The chunks and a trie of their numbers.
+/// The chunks that a snapshot took, and a trie that finds their numbers.
 ///
-/// A chunk is found by at most 64 tests of a bit and one comparison. To take one costs as many tests, and
-/// four links are written at most. That holds for whatever chunks: those that share a slot make a tree of
-/// forks.
+/// A look-up takes at most 64 tests of a bit and one comparison. Taking a chunk takes as many tests, and writes
+/// at most four links. This holds for any chunks: those that share a slot form a tree of forks.
 ///
-/// All memory is reserved by `with_places` or `for_chunks`: 16 bytes for each place, and the table. The table is written
-/// then: 4 to 8 bytes for each place, or for each chunk of the snapshot where these are fewer. A chunk itself, 8, and the
-/// links of a fork, as many, are written only when it is taken. More than 2²³ places are refused as too much memory.
+/// `with_places` or `for_chunks` reserves all memory: 16 bytes for each place, and the table. The table is
+/// written at once: 4 to 8 bytes for each place, or for each chunk of the snapshot if there are fewer. The 8
+/// bytes for a chunk, and the 8 for a fork's links, are written only when the chunk is taken. More than 2²³
+/// places are refused as out of memory.
 #[derive(Drop)]
 pub struct TrieTaken {
     chunks: Reserved<u64>,
-    /// The table, and then the two links of each fork.
+    /// The table of slots, and after it the two links of each fork.
     links: Reserved<Link>,
-    /// Where in the table the way of a chunk begins.
+    /// Which slot of the table a chunk's look-up starts at.
     slots: Slots,
-    /// At most 2²³. In 32 bits, as the table of a device is found by its size: 72 bytes take fewer steps than 80.
+    /// The number of places, at most 2²³. In 32 bits it keeps this struct at 72 bytes, faster to index than 80.
     places: u32,
     valid: bool,
-    /// Whether each taken chunk is in the slot of its own number. Then none is compared there, and the list
-    /// of chunks isn't read.
+    /// Whether every taken chunk is in the slot with its own number. If so, a look-up compares nothing there, and
+    /// doesn't read the list of chunks.
     own_slots: bool,
     ghost reserved: { places ≤ chunks.room },
     ghost room: { slots.mask + 1 + 2 * places ≤ links.room },
@@ -61,7 +61,7 @@ pub struct TrieTaken {
 }
 
 impl TrieTaken {
-    /// The chunks, in the order in which they were taken.
+    /// The taken chunks, in the order in which they were taken.
     pub fn as_slice(&self) -> &[u64]
         ensures chunks { result.now ≡ ⟦<TrieTaken as Taken>⟧.chunks self.now }
         ensures few { length result.now < 2 ^ 24 }
@@ -69,10 +69,10 @@ impl TrieTaken {
         self.chunks.as_slice()
     }
 
-    /// The number of a chunk that was taken, from 0, as `find` answers it.
+    /// The number of a taken chunk, counted from 0 in the order of taking, as `find` returns it.
     ///
-    /// To `comparisons` it adds how often the chunk was compared with a taken one: once at most. To `bits`
-    /// it adds how many bits of it were tested: 64 at most. Each stays once it is the greatest number.
+    /// Adds to `comparisons` how often the chunk was compared with a taken one, at most once, and to `bits` how
+    /// many of its bits were tested, at most 64. Each sum stays at `u64::MAX` once it gets there.
     pub fn find_counted(&self, chunk: u64, comparisons: &mut u64, bits: &mut u64) -> Option<usize>
         ensures found { result ≡ number_in chunk (⟦<TrieTaken as Taken>⟧.chunks self.now) }
         ensures compared { comparisons.old ≤ comparisons.new }
@@ -96,7 +96,7 @@ impl TrieTaken {
         }
     }
 
-    /// Where the way of a chunk ends, and how many bits are tested on it.
+    /// The index at which a chunk's look-up ends, and how many bits it tests.
     fn end_of(&self, chunk: u64) -> (usize, u64)
         ensures at { result.0 ≡ end_of self.now.links.items self.now.slots chunk }
         ensures few { result.1 ≤ 64 }
@@ -110,7 +110,7 @@ impl TrieTaken {
         (at, tested)
     }
 
-    /// Takes a chunk that the trie lacks: its search ended at this empty slot.
+    /// Takes a chunk that isn't in the trie, and whose look-up ends at this index with no number.
     fn put(&mut self, at: usize, chunk: u64)
         requires room { length self.old.chunks.items < self.old.places }
         requires fresh { number_in chunk self.old.chunks.items ≡ None }
@@ -125,8 +125,8 @@ impl TrieTaken {
         self.chunks.push(chunk);
     }
 
-    /// Takes a chunk whose way ends at the number of another one: puts a fork there, on the lowest bit in
-    /// which the two differ. Either number is behind one of its links.
+    /// Takes a chunk whose look-up ends at another one's number, by putting a fork there. It tests the lowest bit
+    /// in which the two chunks differ, and has a link to either number.
     fn part(&mut self, at: usize, other: u32, chunk: u64)
         requires room { length self.old.chunks.items < self.old.places }
         requires fresh { number_in chunk self.old.chunks.items ≡ None }
@@ -155,7 +155,7 @@ impl Taken for TrieTaken {
 
     ghost valid = { λ taken. taken.valid };
 
-    /// It refuses more than 2²³ places as too much memory.
+    /// Refuses more than 2²³ places as out of memory.
     fn with_places(alloc: Global, count: usize) -> Result<TrieTaken, AllocError>
         ensures chunks { IfOk result (λ taken. ⟦<TrieTaken as Taken>⟧.chunks taken ≡ []) }
         ensures places { IfOk result (λ taken. ⟦<TrieTaken as Taken>⟧.places taken ≡ count) }
@@ -165,8 +165,8 @@ impl Taken for TrieTaken {
         TrieTaken::for_chunks(alloc, count, count as u64)
     }
 
-    /// The table has a slot for each chunk, or as many as there are places where these are fewer. It refuses more
-    /// than 2²³ places as too much memory.
+    /// Makes a table with a slot for each chunk of the snapshot, or only one for each place if there are fewer.
+    /// Refuses more than 2²³ places as out of memory.
     fn for_chunks(alloc: Global, count: usize, chunks: u64) -> Result<TrieTaken, AllocError>
         ensures chunks { IfOk result (λ taken. ⟦<TrieTaken as Taken>⟧.chunks taken ≡ []) }
         ensures places { IfOk result (λ taken. ⟦<TrieTaken as Taken>⟧.places taken ≡ count) }
@@ -193,9 +193,9 @@ impl Taken for TrieTaken {
         self.find_counted(chunk, &mut comparisons, &mut bits)
     }
 
-    /// The link at which the way of a chunk begins, and the taken chunk or the links that this leads to. Where
-    /// the slots are the chunks' own, nothing is asked of the link, as a jump that waits for one lets the links
-    /// of other requests wait.
+    /// Reads the link at which the chunk's look-up starts, and the taken chunk or the links that it leads to.
+    /// With own slots, it doesn't look at the link: a branch that waits for one link would delay the links of
+    /// other requests.
     fn prefetch(&self, chunk: u64) -> u64 {
         let link = &self.links[self.slots.of(chunk)];
         if self.own_slots {
@@ -243,7 +243,7 @@ impl Taken for TrieTaken {
                 }
                 self.part(at, other, chunk);
             }
-            // No way goes on after 64 bits.
+            // After 64 bits, a look-up can't meet another fork.
             Node::Fork(_, _) => unreachable!(),
         }
         true
@@ -258,7 +258,7 @@ impl Taken for TrieTaken {
     ghost once = { λ taken. taken.once };
 }
 
-/// This many links to nothing, with room for more.
+/// Makes a table of this many empty links, with room for more.
 fn slots_with_room(alloc: Global, slots: usize, room: usize) -> Result<Vec<Link>, AllocError>
     requires { slots ≤ room }
     ensures items { IfOk result (λ links. links.items ≡ replicate slots Empty) }
@@ -271,7 +271,7 @@ fn slots_with_room(alloc: Global, slots: usize, room: usize) -> Result<Vec<Link>
     Ok(links)
 }
 
-/// A bit of a chunk, 0 or 1.
+/// The value of a bit of the chunk, 0 or 1.
 fn bit_of(chunk: u64, bit: u32) -> usize
     requires { bit < 64 }
     ensures { result ≡ bit_at chunk bit }

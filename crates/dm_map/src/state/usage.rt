@@ -1,4 +1,4 @@
-//! Usage: how much of a snapshot's store is used.
+//! How much of a snapshot's exception store is used.
 
 ghost use Rattle.dm_map.specs.Prelude.{IfSome, IsSnapshot, allocated, metadata, AreAdded, taken_at, snapshot_at, usage_of, stack_state};
 ghost use Rattle.std.specs.Prelude.{◌≡◌, ◌+◌, ◌<◌, ◌≤◌, ◌^◌};
@@ -11,22 +11,21 @@ use dm_table::StoreKind;
 #[cfg(test)]
 mod tests;
 
-/// How much of the store of a snapshot is used, in sectors of 512 bytes.
+/// The usage of a snapshot's store, in sectors of 512 bytes.
 #[derive(Clone, Copy, Debug, PartialEq, Eq, Drop)]
 pub struct Usage {
-    /// The sectors up to the place of the next chunk. Where an area of chunk numbers comes before
-    /// that place, this can pass the store's length.
+    /// The sectors before the place of the next chunk. If a metadata area comes right before that place, this can
+    /// be more than the store's length.
     pub allocated: u64,
-    /// The length of the store.
+    /// The length of the store in sectors.
     pub total: u64,
-    /// How many of the allocated sectors are the header and the areas of chunk numbers. A transient
-    /// store has none.
+    /// How many of the allocated sectors are the header and metadata areas; 0 for a transient store.
     pub metadata: u64,
     /// Whether the snapshot is valid.
     pub valid: bool,
 }
 
-/// The usage of a snapshot in this state, at the cost of one look-up.
+/// The usage of a snapshot in the walker's state. Costs one look-up.
 pub(crate) fn usage_of<T: Taken>(walker: &mut Walker<'_, T>, device: DeviceId) -> Usage
     requires { IsSnapshot walker.old.stack device }
     ensures usage { IfSome (snapshot_at walker.old.stack device)
@@ -51,7 +50,7 @@ pub(crate) fn usage_of<T: Taken>(walker: &mut Walker<'_, T>, device: DeviceId) -
     )
 }
 
-/// The usage of a store of a kind and a length that has this many taken chunks, of this size.
+/// The usage of a store of this kind, chunk size and length, with this many taken chunks.
 fn usage_with(
     kind: StoreKind,
     chunk_size: ChunkSize,

@@ -1,8 +1,8 @@
-//! Walkers: what a walk down a stack goes by.
+//! The walker, which carries what a walk down a stack reads and changes.
 //!
-//! A walk looks up lines, lengths and read-only flags of the stack, and reads and changes the state
-//! that earlier requests left. The state is a table of taken chunks for each device, by its id; the
-//! table of a device that is no snapshot has no place and stays empty.
+//! A walk looks up lines, lengths and read-only flags of the stack, and reads and changes the state left by
+//! earlier requests. The state is a table of taken chunks for each device, by its id; the table of a device that
+//! isn't a snapshot has no places and stays empty.
 
 ghost use Rattle.dm_map.specs.Prelude.{ℕ, true, not, None, Some, IfSome, is_none, length, IsLineOf, device_len, is_ro_at, lower_len, IsSound, counts_of, AreAdded, IsFitting, IsWithinPlaces, lost, put, with_chunk, taken_at, number_in, AreTables, has_room, state_of, stack_state};
 ghost use Rattle.dm_stack.specs.declared.checks.limits.TheConstants.{MOST_LENGTH};
@@ -50,7 +50,7 @@ pub fn lower_len(looker: &Looker<'_>, lower: Lower) -> u64
 }
 
 impl<'s, T: Taken> Walker<'s, T> {
-    /// A walker of the looker's stack, in the state of these tables.
+    /// Makes a walker for the looker's stack, in the state of these tables.
     pub(crate) fn new(looker: Looker<'s>, tables: Reserved<T>) -> Walker<'s, T>
         requires { AreTables T.places looker.stack tables.items }
         ensures stack { result.stack ≡ looker.entry.stack }
@@ -60,7 +60,7 @@ impl<'s, T: Taken> Walker<'s, T> {
         Walker { looker, tables }
     }
 
-    /// The searches so far; they stay at the greatest number once there.
+    /// How many line searches were made so far; the count stays at `u64::MAX` once it gets there.
     #[inline(always)]
     pub(crate) fn searches(&self) -> u64
         ensures { result ≡ self.now.looked.searches }
@@ -68,7 +68,7 @@ impl<'s, T: Taken> Walker<'s, T> {
         self.looker.searches()
     }
 
-    /// How often the searches compared a line's start with a sector.
+    /// How often line searches compared a line's start with a sector so far.
     #[inline(always)]
     pub(crate) fn comparisons(&self) -> u64
         ensures { result ≡ self.now.looked.comparisons }
@@ -76,7 +76,7 @@ impl<'s, T: Taken> Walker<'s, T> {
         self.looker.comparisons()
     }
 
-    /// The line that holds a sector of a device, at one search.
+    /// The line that holds a sector of a device. Costs one search.
     #[inline(always)]
     pub(crate) fn look(&mut self, device: DeviceId, sector: u64) -> Found<'s>
         requires device { device < length self.old.stack.devices }
@@ -119,8 +119,8 @@ impl<'s, T: Taken> Walker<'s, T> {
         self.looker.is_ro(device)
     }
 
-    /// Recalls that a walker's state has a table for each device of its stack. It does nothing: its contract
-    /// is what is asked of it.
+    /// Proves that the state has a table for each device of the stack. Does nothing at run time: it is called for
+    /// its contract.
     #[inline(always)]
     pub(crate) fn recall_tables(&self)
         ensures { length self.now.state ≡ length self.now.stack.devices }
@@ -128,7 +128,7 @@ impl<'s, T: Taken> Walker<'s, T> {
         self.looker.depth();
     }
 
-    /// Recalls that a walker's stack is sound. It does nothing: its contract is what is asked of it.
+    /// Proves that the walker's stack is sound. Does nothing at run time: it is called for its contract.
     #[inline(always)]
     pub(crate) fn recall_soundness(&self)
         ensures { IsSound self.now.stack }
@@ -136,8 +136,8 @@ impl<'s, T: Taken> Walker<'s, T> {
         self.looker.depth();
     }
 
-    /// Recalls that no snapshot took more chunks than its store has places. It does nothing: its contract is
-    /// what is asked of it.
+    /// Proves that no snapshot took more chunks than its store has room for. Does nothing at run time: it is
+    /// called for its contract.
     #[inline(always)]
     pub(crate) fn recall_places(&self)
         ensures within { IsWithinPlaces self.now.stack self.now.state }
@@ -146,7 +146,7 @@ impl<'s, T: Taken> Walker<'s, T> {
         self.looker.depth();
     }
 
-    /// What a snapshot took.
+    /// The chunks that a snapshot took, and whether it is valid.
     pub(crate) fn taken(&self, device: DeviceId) -> &T
         requires { device < length self.now.stack.devices }
         ensures chunks { T.chunks result.now ≡ (taken_at self.now.state device).chunks }
@@ -165,7 +165,8 @@ impl<'s, T: Taken> Walker<'s, T> {
         table.is_valid()
     }
 
-    /// The number of a chunk among those that a snapshot took, from 0; its store has a place for it.
+    /// The number of a chunk that a snapshot took, counted from 0 in the order of taking; the store has a place
+    /// for it.
     pub(crate) fn find(&self, device: DeviceId, chunk: u64) -> Option<usize>
         requires { device < length self.now.stack.devices }
         ensures number { result ≡ number_in chunk (taken_at self.now.state device).chunks }
@@ -175,7 +176,8 @@ impl<'s, T: Taken> Walker<'s, T> {
         table.find(chunk)
     }
 
-    /// Reads ahead what is looked up first for a chunk of a snapshot.
+    /// Reads the memory that a look-up of this chunk of a snapshot starts with, so that it is in the cache by
+    /// then.
     #[inline(always)]
     pub(crate) fn prefetch(&self, device: DeviceId, chunk: u64) -> u64 {
         match self.tables.as_slice().get(device.index()) {
@@ -204,7 +206,7 @@ impl<'s, T: Taken> Walker<'s, T> {
         table.is_full()
     }
 
-    /// Takes a chunk of a valid snapshot, which it did not take, where its store has a place for it.
+    /// Takes a chunk that a valid snapshot hasn't taken yet; its store must have a place for one more.
     pub(crate) fn take(&mut self, device: DeviceId, chunk: u64)
         requires device { device < length self.old.stack.devices }
         requires valid { (taken_at self.old.state device).valid ≡ true }
@@ -220,8 +222,8 @@ impl<'s, T: Taken> Walker<'s, T> {
         table.take(chunk);
     }
 
-    /// Takes a chunk of a valid snapshot unless it took it, where its store has a place for it, and says whether
-    /// it was taken.
+    /// Takes a chunk of a valid snapshot unless it is taken already, and returns whether it took it; the store
+    /// must have a place for one more.
     pub(crate) fn offer(&mut self, device: DeviceId, chunk: u64) -> bool
         requires device { device < length self.old.stack.devices }
         requires valid { (taken_at self.old.state device).valid ≡ true }
@@ -238,7 +240,7 @@ impl<'s, T: Taken> Walker<'s, T> {
         table.offer(chunk)
     }
 
-    /// Makes a snapshot invalid, for good.
+    /// Makes a snapshot invalid for good.
     pub(crate) fn invalidate(&mut self, device: DeviceId)
         requires device { device < length self.old.stack.devices }
         ensures stack { self.new.stack ≡ self.old.stack }

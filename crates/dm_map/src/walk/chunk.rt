@@ -1,4 +1,4 @@
-//! Chunks of a snapshot: how a range is cut at them, and where their sectors are read.
+//! Cutting a range at the chunks of a snapshot, and where a chunk's sectors are read.
 
 ghost use Rattle.dm_map.specs.Prelude.{false, true, length, min, IfNone, IfSome, place, store_sector, taken_at, AreInChunk, AreReadAt};
 ghost use Rattle.dm_stack.specs.declared.checks.limits.TheConstants.{MOST_LENGTH};
@@ -8,21 +8,21 @@ use crate::state::taken::Taken;
 use crate::state::walker::Walker;
 use dm_stack::{ChunkSize, DeviceId, Lower, ResolvedSnapshot, place};
 
-/// Where sectors are read: from a sector of a device or a disk on.
+/// Where sectors are read from: consecutive sectors of a device or a disk, from `sector` on.
 #[derive(Clone, Copy, Drop)]
 pub(crate) struct ReadAt {
     pub(crate) to: Lower,
     pub(crate) sector: u64,
 }
 
-/// How many of at most `most` sectors, from a sector of a snapshot on, are in one chunk of this size.
+/// How many of at most `most` sectors of a snapshot, from `sector` on, are in the chunk of the first one.
 pub(crate) fn part_of_chunk(chunk_size: ChunkSize, sector: u64, most: u64) -> u64
     ensures { result ≡ min most (chunk_size - sector % chunk_size) }
 {
     most.min(chunk_size.sectors() - chunk_size.distance_in(sector))
 }
 
-/// The sector of a store where a taken chunk begins, which was the `number`th to be taken, from 0.
+/// The sector of a store at which the `number`th taken chunk starts, counted from 0.
 pub(crate) fn store_start(snapshot: &ResolvedSnapshot, number: usize) -> u64
     requires { (place snapshot.now.kind snapshot.now.chunk number + 1) * snapshot.now.chunk
         ≤ MOST_LENGTH }
@@ -32,7 +32,7 @@ pub(crate) fn store_start(snapshot: &ResolvedSnapshot, number: usize) -> u64
     place(snapshot.kind, snapshot.chunk, number as u64) * sectors
 }
 
-/// The sector of a store that has a sector of a taken chunk, which was the `number`th to be taken,
+/// The sector of a store that holds this sector of a snapshot, whose chunk is the `number`th taken one, counted
 /// from 0.
 pub(crate) fn store_sector(snapshot: &ResolvedSnapshot, number: usize, sector: u64) -> u64
     requires { (place snapshot.now.kind snapshot.now.chunk number + 1) * snapshot.now.chunk
@@ -42,8 +42,8 @@ pub(crate) fn store_sector(snapshot: &ResolvedSnapshot, number: usize, sector: u
     store_start(snapshot, number) + snapshot.chunk.distance_in(sector)
 }
 
-/// Where the sectors of a chunk of a snapshot are read, from one of them on: in the store if the chunk
-/// was taken, and else in the origin. Nowhere once the snapshot is lost.
+/// Where sectors of one chunk of a snapshot are read from: the store if the chunk is taken, else the origin. None
+/// if the snapshot is lost.
 pub(crate) fn read_at<T: Taken>(
     walker: &Walker<'_, T>,
     device: DeviceId,
@@ -64,7 +64,8 @@ pub(crate) fn read_at<T: Taken>(
     Some(source_of(walker, device, snapshot, sector, len))
 }
 
-/// Where the sectors of a chunk of a valid snapshot are read, from one of them on.
+/// Where sectors of one chunk of a valid snapshot are read from: the store if the chunk is taken, else the
+/// origin.
 #[inline(always)]
 pub(crate) fn source_of<T: Taken>(
     walker: &Walker<'_, T>,
@@ -91,7 +92,7 @@ pub(crate) fn source_of<T: Taken>(
     }
 }
 
-/// Whether sectors are read right after `len` others.
+/// Whether `next` is read from right after `len` sectors of `source`, on the same device or disk.
 #[inline(always)]
 pub(crate) fn goes_on(source: &ReadAt, len: u64, next: &ReadAt) -> bool
     requires { source.now.sector + len ≤ MOST_LENGTH }

@@ -1,10 +1,11 @@
-//! Requests whose sectors lie in a row on a disk, as those of most do.
+//! Requests whose sectors all lie in a row on one disk, as is true of most.
 //!
-//! Where they lie is returned to the caller of the mapper, which then knows that nothing else comes of the request.
+//! The mapper's caller is returned the place on the disk, and so knows that the request does nothing else.
 //!
-//! This is here for speed alone, as the walk answers such requests, too: RESULTS.md has its gain as *a range that
-//! lies on one disk is returned and written at once*. It rests on `ResolvedTarget::leg`, as the walk does: a line on a
-//! disk has one leg. Change it only if you measure small requests, and first writes, before and after.
+//! This is here for speed alone, since the walk handles such requests, too: RESULTS.md has its gain as *a range
+//! that lies on one disk is returned and written at once*. Like the walk, it relies on `ResolvedTarget::leg`: a
+//! linear line on a disk has one leg. If you change it, measure small requests, and first writes, before and
+//! after.
 
 ghost use Rattle.dm_map.specs.Prelude.{IfSome, Disk, IsLineOf, handed, IsLegOf};
 ghost use Rattle.dm_stack.specs.declared.lines.leg.Beneath.TheVariants.{Lies};
@@ -14,14 +15,14 @@ use crate::state::taken::Taken;
 use crate::state::walker::Walker;
 use dm_stack::{Beneath, DeviceId, DiskId, Leg, Lower, ResolvedLine, ResolvedTarget};
 
-/// Where sectors lie in a row: from a sector of a disk on.
+/// Where sectors lie in a row on a disk: from the sector `start` on.
 #[derive(Clone, Copy, Drop)]
 pub struct Home {
     pub disk: DiskId,
     pub start: u64,
 }
 
-/// Where sectors of a line lie, if the line is a part of a disk: they lie in a row there, as those of the line do.
+/// Where sectors of a line lie in a row on a disk, if the line is linear over a disk.
 #[inline(always)]
 pub(crate) fn home_in<T: Taken>(
     walker: &Walker<'_, T>,
@@ -50,7 +51,7 @@ pub(crate) fn home_in<T: Taken>(
     }
 }
 
-/// Whether a line is a part of a disk.
+/// Whether a line is linear over a disk.
 #[inline(always)]
 fn is_on_disk(line: &ResolvedLine) -> bool {
     matches!(
@@ -62,7 +63,7 @@ fn is_on_disk(line: &ResolvedLine) -> bool {
     )
 }
 
-/// The result where all units were handed over.
+/// The result of a request whose operations were all handed to the sink, so that no home is returned.
 #[inline(always)]
 pub(crate) fn handed<F>(answer: Result<(), F>) -> Result<Option<Home>, F>
     ensures { result ≡ handed answer }

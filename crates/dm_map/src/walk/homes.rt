@@ -1,6 +1,6 @@
-//! Homes: where the sectors of a store lie on disks.
+//! Homes: where on disks the sectors of an exception store lie.
 //!
-//! A store is linear and striped lines alone, down to disks, so its sectors have a home whatever the state is.
+//! A store is made of linear and striped lines over disks, so its sectors have fixed homes, whatever was written.
 
 ghost use Rattle.dm_map.specs.Prelude.{lower_len, IsStore, AreAdded, stack_state, IsFirstHomes};
 ghost use Rattle.std.specs.Prelude.{◌≡◌, ◌+◌, ◌≤◌};
@@ -18,7 +18,7 @@ pub struct HomeStretch {
     pub len: u64,
 }
 
-/// Where the first sectors of a range of a store lie.
+/// Where the first sectors of a range of a store lie in a row on a disk.
 pub(crate) fn first_homes<T: Taken>(
     walker: &mut Walker<'_, T>,
     store: Lower,

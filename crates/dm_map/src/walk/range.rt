@@ -1,12 +1,11 @@
-//! The walk down a stack: hands the units of consecutive sectors to a sink.
+//! The walk down a stack, which hands the operations on consecutive sectors to a sink.
 //!
-//! A range goes down in one step, and each line that it passes is looked up once. It is cut only where a
-//! line ends and at chunks: of stripes, of a snapshot, unless the next chunk is read in a row with it, and
-//! of a written origin, where one of its snapshots still needs something. Where the sectors of a line lie
-//! is for its legs to say (`dm_stack`'s `leg`), so a new target that has no state needs nothing here; one
-//! with a state is an arm of `map_leg`, with a loop of its own. Each function says which units it hands
-//! over, which state it leaves, and, of a read, how often it searches: at most once a level for each
-//! stretch of sectors with one path (`specs/walk/Path`).
+//! A whole range goes down together, and each line that it passes is looked up once. It is cut only where a line
+//! ends, and at chunks: of stripes; of a snapshot, unless the next chunk is read right after it; and of a written
+//! origin, if one of its snapshots has something left to do. Where the sectors of a line lie is up to its legs
+//! (`dm_stack`'s `leg`), so a new target without state needs nothing here; a target with state needs an arm of
+//! `map_leg` and a loop of its own. Contracts say which units are handed over, which state is left, and how often
+//! a read searches: at most once per level for each stretch of sectors with one path (`specs/walk/Path`).
 
 ghost use Rattle.dm_map.specs.Prelude.{true, length, Read, Write, Device, is_striped, IsLine, Description, found_mapping, origin_mapping, range_mapping, target_mapping, IsMapped, diskless_len, piece_len, units_in, units_of, Fails, IsOnDisks, or_home, zero_unit, refuses, AreAsked, AreAskedOfOrigin, AreAskedOfSnapshot, IsHanded, HasRoomFor, IsAtLine, IsLegOf};
 ghost use Rattle.dm_stack.specs.declared.lines.resolved_line.ResolvedTarget.TheVariants.{Snapshot};
@@ -28,12 +27,11 @@ use dm_stack::{
 };
 use dm_table::Op;
 
-/// Hands over the units of sectors of a device or a disk, through at most this many levels of
-/// devices.
+/// Hands over the operations on sectors of a device or a disk, through at most this many levels of devices.
 ///
-/// Each piece is a stretch of sectors whose path down is in one line, and one chunk, of each device, or in
-/// chunks of a snapshot that are read in a row. A sink that fails ends the walk. It is inlined, so that a
-/// part that lies on a disk, as most parts of stripes do, costs no call.
+/// Each piece covers sectors whose path down is in one line, and one chunk, of each device; chunks of a snapshot
+/// that are read in a row may share a piece. The walk ends if the sink fails. This is inlined, so that a part
+/// that lies on a disk, as most parts of stripes do, costs no call.
 #[cycle(walk)]
 #[inline(always)]
 pub(crate) fn map_range<S: Sink, T: Taken>(
@@ -55,11 +53,12 @@ pub(crate) fn map_range<S: Sink, T: Taken>(
     }
 }
 
-/// Hands over the units of sectors of a request's device, through as many levels as there may be. Where the
-/// sectors lie in a row on a disk, below one line, as mostly, nothing is handed over, and this is returned.
+/// Hands over the operations on sectors of a request's device, through as many levels as there may be. If the
+/// sectors lie in a row on one disk, below one line, as is usual, nothing is handed over and the place is
+/// returned.
 ///
-/// Of the walk, only the way to a snapshot is inlined here: a function that would grow very large isn't inlined,
-/// whatever it asks for, and that would hit `write_joined` of `dm_stream`, which calls this once a request.
+/// Of the walk, only the way to a snapshot is inlined here. A function that grows very large isn't inlined even
+/// if marked so, and that would happen to `write_joined` of `dm_stream`, which calls this for each request.
 #[inline(always)]
 pub(crate) fn map_top<S: Sink, T: Taken>(
     walker: &mut Walker<'_, T>,
@@ -90,10 +89,10 @@ pub(crate) fn map_top<S: Sink, T: Taken>(
     handed(map_lines(walker, op, MOST_DEPTH, device, line, sector, len, sink))
 }
 
-/// Hands over the units of sectors of a device. A read-only device fails a write of all of them.
+/// Hands over the operations on sectors of a device. On a read-only device, all writes fail.
 ///
-/// A range in one line goes down in one frame: what lies below the line is handed on in tail position.
-/// It is never inlined, so that a loop that calls it has the registers to itself.
+/// What lies below a line is handed on in tail position, so a range in one line uses one stack frame. This is
+/// never inlined, so that a loop that calls it has all registers.
 #[cycle(walk)]
 #[inline(never)]
 fn map_device<S: Sink, T: Taken>(
@@ -119,11 +118,11 @@ fn map_device<S: Sink, T: Taken>(
     map_lines(walker, op, levels, device, line, sector, len, sink)
 }
 
-/// Hands over the units of sectors of a device that doesn't refuse them, line by line, from the line of
-/// the first one on, which was found.
+/// Hands over the operations on sectors of a device that allows them, line by line, starting with the line of the
+/// first sector, which is `first`.
 ///
-/// The last line, mostly the only one, is handed on in tail position: a range in one line goes down in
-/// one frame. It is never inlined, so that what comes before it has the registers to itself.
+/// The last line, usually the only one, is handed on in tail position, so a range in one line uses one stack
+/// frame. This is never inlined, so that the code before the call has all registers.
 #[cycle(walk)]
 #[inline(never)]
 fn map_lines<S: Sink, T: Taken>(
@@ -156,8 +155,8 @@ fn map_lines<S: Sink, T: Taken>(
     }
 }
 
-/// Hands over the units of sectors of one line of a device that doesn't refuse them, through at most
-/// this many levels of devices, of which it is the first. It goes down leg by leg.
+/// Hands over the operations on sectors of one line of a device that allows them, leg by leg, through at most
+/// this many levels of devices, counting this one.
 #[cycle(walk)]
 #[inline(always)]
 fn map_line<S: Sink, T: Taken>(
@@ -186,10 +185,10 @@ fn map_line<S: Sink, T: Taken>(
     map_legs(walker, op, levels - 1, device, line, distance, len, sink)
 }
 
-/// Hands over the units of sectors of a striped line at a distance from its start, leg by leg, through
+/// Hands over the operations on sectors of a striped line from a distance into the line on, leg by leg, through
 /// at most this many levels of devices below it.
 ///
-/// It is never inlined, so that its loop has the registers to itself.
+/// This is never inlined, so that its loop has all registers.
 #[cycle(walk)]
 #[inline(never)]
 fn map_legs<S: Sink, T: Taken>(
@@ -223,8 +222,8 @@ fn map_legs<S: Sink, T: Taken>(
     Ok(())
 }
 
-/// Hands over the units of a leg of a line at a distance from its start, through at most this many
-/// levels of devices below it.
+/// Hands over the operations on a leg at a distance into a line, through at most this many levels of devices
+/// below it.
 #[cycle(walk)]
 #[inline(always)]
 fn map_leg<S: Sink, T: Taken>(
@@ -254,7 +253,7 @@ fn map_leg<S: Sink, T: Taken>(
     }
 }
 
-/// Hands over the units of sectors of a snapshot, through at most this many levels of devices below it.
+/// Hands over the operations on sectors of a snapshot, through at most this many levels of devices below it.
 #[cycle(walk)]
 #[inline(always)]
 fn map_snapshot<S: Sink, T: Taken>(
@@ -277,10 +276,10 @@ fn map_snapshot<S: Sink, T: Taken>(
     }
 }
 
-/// Hands over the units of reads of sectors of a snapshot: as many chunks at once as are read in a row.
-/// All of them fail if the snapshot is lost.
+/// Hands over the reads of sectors of a snapshot, as many chunks at once as are read in a row. All of them fail
+/// if the snapshot is lost.
 ///
-/// It is never inlined: the walk through lines and stripes is the faster for it.
+/// This is never inlined, which makes the walk through lines and stripes faster.
 #[cycle(walk)]
 #[inline(never)]
 fn read_snapshot<S: Sink, T: Taken>(
@@ -338,10 +337,10 @@ fn read_snapshot<S: Sink, T: Taken>(
     )
 }
 
-/// Hands over the units of sectors of an origin's device, through at most this many levels of devices
-/// below it: those of the origin, and of a write first what its snapshots still need.
+/// Hands over the operations on sectors of an origin's device, through at most this many levels of devices below
+/// it. Writes first do what the origin's snapshots still need.
 ///
-/// It is never inlined, as `read_snapshot` is not.
+/// This is never inlined, which makes the walk through lines and stripes faster.
 #[cycle(walk)]
 #[inline(never)]
 fn map_origin<S: Sink, T: Taken>(
@@ -363,11 +362,11 @@ fn map_origin<S: Sink, T: Taken>(
     }
 }
 
-/// Hands over the units of writes to sectors of an origin: the chunk of the first of them is
-/// taken in its snapshots, and then as many are written as need nothing more.
+/// Hands over the writes to sectors of an origin: its snapshots take the chunk of the first sector, and then all
+/// sectors are written up to the first that needs another chunk taken.
 ///
-/// A part that was cut short lets the next one look no further than twice as far, so that no part
-/// looks again at all that lies behind it.
+/// After a part that was cut short, the next one may be at most twice as long, so that parts don't look again and
+/// again at everything behind them.
 #[cycle(walk)]
 fn write_origin<S: Sink, T: Taken>(
     walker: &mut Walker<'_, T>,
@@ -397,8 +396,8 @@ fn write_origin<S: Sink, T: Taken>(
     Ok(())
 }
 
-/// Fails sectors. This is rare, and a sink's call in line would take registers from all others, so it
-/// is never inlined.
+/// Hands over errors for `len` sectors. This is rare, and an inlined call of the sink would take registers from
+/// all other code, so it is never inlined.
 #[inline(never)]
 pub(crate) fn fail<S: Sink>(len: u64, sink: &mut S) -> Result<(), S::Fault>
     requires some { 1 ≤ len }
@@ -408,7 +407,8 @@ pub(crate) fn fail<S: Sink>(len: u64, sink: &mut S) -> Result<(), S::Fault>
     sink.piece(Piece::Error { len })
 }
 
-/// Hands over sectors in zeros. It is never inlined, as `fail` is not.
+/// Hands over sectors of a zero target. This is never inlined, so that an inlined call of the sink takes no
+/// registers.
 #[inline(never)]
 fn hand_zeros<S: Sink>(op: Op, len: u64, sink: &mut S) -> Result<(), S::Fault>
     requires some { 1 ≤ len }
@@ -418,7 +418,7 @@ fn hand_zeros<S: Sink>(op: Op, len: u64, sink: &mut S) -> Result<(), S::Fault>
     sink.piece(zero_piece(op, len))
 }
 
-/// Whether a device refuses the operation as a whole: a write, where it is read-only.
+/// Whether a device fails all requests of this kind: writes, if it is read-only.
 fn refuses<T: Taken>(walker: &Walker<'_, T>, op: Op, device: DeviceId) -> bool
     requires { device < length walker.now.stack.devices }
     ensures { result ≡ refuses walker.now.stack op device }
@@ -426,7 +426,7 @@ fn refuses<T: Taken>(walker: &Walker<'_, T>, op: Op, device: DeviceId) -> bool
     walker.is_ro(device) && matches!(op, Op::Write)
 }
 
-/// What is done at sectors in zeros.
+/// The piece for a read or a write of `len` sectors of a zero target.
 fn zero_piece(op: Op, len: u64) -> Piece
     ensures units { units_of result ≡ units_in (zero_unit op) len }
     ensures len { piece_len result ≡ len }

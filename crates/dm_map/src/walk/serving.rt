@@ -1,8 +1,8 @@
 //! The snapshots of an origin: what a write to the origin's device does before it writes.
 //!
-//! In each of them the chunk of a sector is taken, so that the snapshot still has what the origin had.
-//! Then as many sectors are written as need no more of it: a range is cut where a snapshot has
-//! something left to do, and not wherever a chunk ends.
+//! Each snapshot takes the chunk of the written sector, so that it keeps what the origin held. Then as many
+//! sectors are written as need no more of that: a range is cut where a snapshot has something left to do, not at
+//! the end of each chunk.
 
 ghost use Rattle.dm_map.specs.Prelude.{OnOk, true, All, serve, AreSettled, IsLongest, IsOver, is_settled, taken_at, HasRoomFor, IsWalked};
 ghost use Rattle.dm_stack.specs.declared.checks.limits.TheConstants.{MOST_LENGTH};
@@ -15,7 +15,7 @@ use crate::walk::chunk::part_of_chunk;
 use crate::walk::take_chunk::{is_settled, take_chunk};
 use dm_stack::ResolvedOver;
 
-/// Takes the chunk of a sector of an origin in each of its snapshots, in their order.
+/// Makes each snapshot of an origin take the chunk of a sector, in the order of the snapshots.
 pub(crate) fn serve<S: Sink, T: Taken>(
     walker: &mut Walker<'_, T>,
     over: &[ResolvedOver],
@@ -37,11 +37,10 @@ pub(crate) fn serve<S: Sink, T: Taken>(
     Ok(())
 }
 
-/// How many of at most `most` sectors of an origin, from `sector` on, lie in chunks for which nothing
-/// is left to do, in all of its snapshots. Those of `sector` itself do, and the answer goes as far as
-/// it can.
+/// How many of at most `most` sectors of an origin, from `sector` on, are in chunks that all of its snapshots
+/// have settled, up to the first that isn't. The chunk of `sector` itself must be settled.
 ///
-/// It only looks, at each chunk at most once, and at none of a snapshot that is lost.
+/// Changes nothing, looks at each chunk of a snapshot at most once, and at no chunk of a lost snapshot.
 pub(crate) fn settled_part<T: Taken>(
     walker: &Walker<'_, T>,
     over: &[ResolvedOver],
@@ -61,8 +60,8 @@ pub(crate) fn settled_part<T: Taken>(
     part
 }
 
-/// How many of at most `most` sectors of a snapshot, from `sector` on, lie in chunks for which nothing
-/// is left to do, as nothing is for that of `sector`: as far as it goes.
+/// How many of at most `most` sectors of a snapshot, from `sector` on, are in settled chunks, up to the first
+/// that isn't. The chunk of `sector` itself must be settled.
 fn settled_in<T: Taken>(walker: &Walker<'_, T>, one: &ResolvedOver, sector: u64, most: u64) -> u64
     requires over { IsOver walker.now.stack (sector + most) one.now }
     requires some { 1 ≤ most }

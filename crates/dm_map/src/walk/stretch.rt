@@ -1,8 +1,8 @@
-//! Stretches: where the first sectors of a range are read, and how many continue like that.
+//! Stretches: where the first sectors of a range are read from, and how many of them in a row.
 //!
-//! The walk hands pieces to a sink; this goes down the same legs and returns one piece of a read, with
-//! no sink and no loop over sectors, at the cost of one look-up for each level. It serves copies, which
-//! need the origin's side and the store's side at once.
+//! The walk hands pieces to a sink; this follows the same legs and returns the first piece of a read, without a
+//! sink and without a loop over sectors, at the cost of one look-up for each level. It is for copies, which need
+//! to know the origin's side and the store's side at once.
 
 ghost use Rattle.dm_map.specs.Prelude.{Read, IsLine, lower_len, Device, AreAdded, stack_state, IsFirst, IsFirstOf, IsFirstRead, IsGroundNear, line_step};
 ghost use Rattle.std.specs.Prelude.{◌≡◌, ◌+◌, ◌≤◌};
@@ -13,18 +13,18 @@ use crate::walk::chunk::{part_of_chunk, read_at};
 use crate::walk::step::part_in;
 use dm_stack::{Beneath, DeviceId, DiskId, Leg, Lower, MOST_DEPTH, ResolvedLine};
 
-/// What consecutive sectors are read from.
+/// Where consecutive sectors are read from.
 #[derive(Clone, Copy, PartialEq, Eq, Drop)]
 pub enum Ground {
-    /// A disk, from `start` on.
+    /// They are read from a disk, from `start` on.
     Disk { disk: DiskId, start: u64 },
-    /// Nothing: they read as zeros.
+    /// They read as zeros.
     Zeros,
-    /// Nothing: they fail.
+    /// Reading them fails.
     Fails,
 }
 
-/// `len` sectors that are read from one ground.
+/// `len` consecutive sectors that are read from one ground.
 #[derive(Clone, Copy, Drop)]
 pub struct Stretch {
     pub ground: Ground,
@@ -33,10 +33,10 @@ pub struct Stretch {
 
 /// The first stretch of a range of a device or a disk, through at most this many levels of devices.
 ///
-/// It has at least one sector and at most those of the range. It ends where a line or a chunk on its
-/// way down ends, of stripes or of a snapshot, at the latest.
+/// The stretch has from one sector to all of the range. It ends at the latest where a line, or a chunk of stripes
+/// or of a snapshot, ends on the way down.
 ///
-/// It is inlined, so that sectors of a disk, as most stores and origins are, cost no call.
+/// This is inlined, so that sectors of a disk, as most stores and origins are, cost no call.
 #[cycle(stretch)]
 #[inline(always)]
 pub(crate) fn first_stretch<T: Taken>(
@@ -88,8 +88,8 @@ fn device_stretch<T: Taken>(
     line_stretch(walker, levels - 1, device, line, distance, part)
 }
 
-/// The first stretch of sectors of a line of this device at a distance from its start, through at
-/// most this many levels of devices below it.
+/// The first stretch of sectors of a line of this device, from a distance into the line on, through at most this
+/// many levels of devices below it.
 #[cycle(stretch)]
 fn line_stretch<T: Taken>(
     walker: &mut Walker<'_, T>,
@@ -132,7 +132,7 @@ fn line_stretch<T: Taken>(
     }
 }
 
-/// What the first sectors of a range of a device are read from.
+/// Where the first sectors of a range of a device are read from, and how many of them in a row.
 pub(crate) fn first_read<T: Taken>(
     walker: &mut Walker<'_, T>,
     device: DeviceId,

@@ -1,11 +1,10 @@
-//! Taking a chunk: what a write to a snapshot does before it writes.
+//! Taking a chunk, which a write to a snapshot or its origin does before it writes.
 //!
-//! A chunk that is not taken is tested once, copied from the origin to its place in the store, and
-//! then taken. The copies are handed over before that, so that all of them read what was there
-//! before. A test and a copy go by stretches, the first of which is looked up once for both, and a copy
-//! ends where either side no longer goes on; no work is done for each sector. What is read and where a
-//! store's sectors lie do not depend on the depth at which the snapshot was reached, so each is looked
-//! up through all levels.
+//! A chunk that isn't taken is tested once, copied from the origin to its place in the store, and then recorded
+//! as taken. All copies are handed over before the write, so they read the old data. The test and the copies work
+//! on stretches, never on single sectors; the first stretch is looked up once for both, and a copy ends where the
+//! stretch on either side does. What is read, and where the store's sectors lie, doesn't depend on the depth at
+//! which the snapshot was reached, so look-ups use all levels.
 
 ghost use Rattle.dm_map.specs.Prelude.{Some, IfNone, IfOk, IfSome, is_some, length, false, true, Description, lower_len, IsStore, AreAdded, IsFirstHomes, AreInSnapshot, IsTakenAs, can_take, copies, copy_to, first_of, is_settled, reads_all, take_chunk, has_place, store_sector, taken_at, keep, ground_unit, IsFirstOf, IsGroundInStack, diskless_len, piece_len, units_in, units_of, IsOnDisk, IsOnDisks, stack_state, HasRoomFor, IsWalked};
 ghost use Rattle.dm_stack.specs.declared.checks.graph.TheConstants.{MOST_DEPTH};
@@ -21,12 +20,11 @@ use crate::walk::homes::{HomeStretch, first_homes};
 use crate::walk::stretch::{Ground, Stretch, first_stretch};
 use dm_stack::{DeviceId, MOST_DEPTH, ResolvedSnapshot};
 
-/// Takes a chunk of a snapshot, before its sectors are written: copies it to the store, and notes that
-/// the store has it.
+/// Takes a chunk of a snapshot before its sectors are written: copies it to the store, and records that the store
+/// holds it.
 ///
-/// There is nothing to do for a chunk that was taken, nor once the snapshot is lost. Where the store is
-/// full, or the origin can't be read without an error, it loses the snapshot in place of taking the
-/// chunk.
+/// Does nothing if the chunk is taken already or the snapshot is lost. If the store is full, or the origin can't
+/// be read without an error, the snapshot becomes lost and the chunk isn't taken.
 pub(crate) fn take_chunk<S: Sink, T: Taken>(
     walker: &mut Walker<'_, T>,
     device: DeviceId,
@@ -47,8 +45,8 @@ pub(crate) fn take_chunk<S: Sink, T: Taken>(
     Ok(())
 }
 
-/// Takes a chunk that a valid snapshot has not taken: it becomes the `number`th, from 0, if it is taken.
-/// It returns where the first of the chunk's sectors lie then, and nothing where the snapshot is lost.
+/// Takes a chunk that a valid snapshot hasn't taken yet, as its `number`th, counted from 0. Returns where the
+/// first of its sectors now lie, or None if the snapshot became lost.
 pub(crate) fn take_new_chunk<S: Sink, T: Taken>(
     walker: &mut Walker<'_, T>,
     device: DeviceId,
@@ -81,7 +79,7 @@ pub(crate) fn take_new_chunk<S: Sink, T: Taken>(
     Ok(Some(home))
 }
 
-/// Whether there is nothing left to do for a chunk: it was taken, or the snapshot is lost.
+/// Whether nothing is left to do for a chunk, because it is taken or the snapshot is lost.
 pub(crate) fn is_settled<T: Taken>(walker: &Walker<'_, T>, device: DeviceId, chunk: u64) -> bool
     requires { device < length walker.now.stack.devices }
     ensures { result ≡ is_settled (taken_at walker.now.state device) chunk }
@@ -89,8 +87,8 @@ pub(crate) fn is_settled<T: Taken>(walker: &Walker<'_, T>, device: DeviceId, chu
     !walker.is_valid(device) || walker.find(device, chunk).is_some()
 }
 
-/// Where the first sectors of a chunk are read, if it can be taken: the store has a place for one more,
-/// and the origin reads all of its sectors, `len` of them from `sector` on.
+/// Where the first sectors of a chunk are read from, if the chunk can be taken: the store has room for one more,
+/// and the origin reads all `len` sectors from `sector` on without an error.
 fn first_source<T: Taken>(
     walker: &mut Walker<'_, T>,
     device: DeviceId,
@@ -128,9 +126,9 @@ fn first_source<T: Taken>(
     }
 }
 
-/// Copies the first sectors of a chunk, which all read without an error, from the origin to the place that
-/// the store has for this number. The first stretch of the origin was found before; that of the place is
-/// returned.
+/// Copies sectors from the start of a chunk, all of which read without an error, from the origin to the store's
+/// place for this number. `first` is the first stretch of the origin; returns the first stretch of the place in
+/// the store.
 fn copy_chunk<S: Sink, T: Taken>(
     walker: &mut Walker<'_, T>,
     snapshot: &ResolvedSnapshot,
@@ -176,7 +174,8 @@ fn copy_chunk<S: Sink, T: Taken>(
     }
 }
 
-/// The copy of the first `len` sectors of a stretch that can be read, to where sectors of a store lie.
+/// The piece that copies the first `len` sectors of a stretch, which reads without an error, to sectors of a
+/// store.
 fn copy_piece(from: &Stretch, to: &HomeStretch, len: u64) -> Piece
     requires { from.now.ground ≢ Fails }
     ensures units { units_of result

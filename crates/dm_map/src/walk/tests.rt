@@ -1,7 +1,7 @@
-//! A stretch is a beginning of the first piece that the walk hands over for a read of the same sectors.
+//! Tests that a stretch is a prefix of the first piece that the walk hands over for a read of the same sectors.
 //!
-//! Both are proved to be what the definitions say; these rows show that they also cut alike, so a
-//! copy goes on as long as a read does, but for chunks of a snapshot that are read in a row.
+//! Both are proved to fit the definitions. These tests show that both are also cut in the same places, so a copy
+//! continues as long as a read does, except at chunks of a snapshot that are read in a row.
 
 ghost use Rattle.dm_map.specs.Prelude.{lower_len};
 ghost use Rattle.std.specs.Prelude.{◌≡◌, ◌+◌, ◌≤◌};
@@ -20,8 +20,8 @@ use dm_table::{Op, Reserved, parse_request};
 use std::alloc::Global;
 use std::process::Abort;
 
-/// Lines of all targets: stripes over a device and a disk, a device over the stripes, stripes over disks,
-/// a snapshot of a snapshot, and the device of its origin.
+/// A table with every target: stripes over a device and a disk, a device over the stripes, stripes over disks, a
+/// snapshot of a snapshot, and the device of its origin.
 const TABLE: &str = "a: 0 4 linear sda 10\na: 4 2 zero\na: 6 2 error\n\
     b: 0 8 striped 2 2 /dev/mapper/a 2 sdb 0\nc: 0 3 linear /dev/mapper/b 1\n\
     d: 0 8 striped 2 2 sda 0 sdb 0\n\
@@ -30,9 +30,8 @@ const TABLE: &str = "a: 0 4 linear sda 10\na: 4 2 zero\na: 6 2 error\n\
 
 const DISKS: &str = "sda 16\nsdb 4\nsdc 64\nsdd 64\n";
 
-/// A write, a read after it, and how many of its sectors the first stretch has, and the first piece: of
-/// a chunk that was taken, of one that was not, and of one that only the origin took; and of one that a
-/// write of the origin's device took.
+/// A write, a read after it, the length of the read's first stretch, and that of its first piece. The chunk is
+/// taken, or not, or taken only in the origin, or taken by a write to the origin's device.
 static AFTER_A_WRITE: [(&str, &str, u64, u64); 6] = [
     ("W s 4 1", "R s 0 16", 4, 4),
     ("W t 0 8", "R t 3 13", 5, 5),
@@ -42,7 +41,7 @@ static AFTER_A_WRITE: [(&str, &str, u64, u64); 6] = [
     ("W o 0 1", "R o 0 16", 4, 4),
 ];
 
-/// A piece of a read, of this length, that begins as a stretch.
+/// The piece of `len` sectors for a read that starts where the stretch does.
 fn piece_of(stretch: &Stretch, len: u64) -> Piece {
     match &stretch.ground {
         Ground::Disk { disk, start } => Piece::Read {
@@ -106,7 +105,7 @@ fn a_stretch_begins_the_first_piece_of_a_read(rt: HostRuntime) {
     }
 }
 
-/// The sectors that the line of a request names.
+/// The device and the range of sectors of a request's line.
 fn sectors_of(rt: &impl Abort, stack: &Stack, line: &str) -> (Lower, u64, u64)
     ensures some { 1 ≤ result.2 }
     ensures inside { result.1 + result.2 ≤ lower_len stack.now result.0 }
@@ -119,7 +118,7 @@ fn sectors_of(rt: &impl Abort, stack: &Stack, line: &str) -> (Lower, u64, u64)
     (Lower::Device(device), start, len)
 }
 
-/// A walker in the state that a write leaves.
+/// A walker in the state after this write.
 fn walker_after<'s>(
     rt: &impl Abort,
     alloc: Global,
@@ -146,7 +145,7 @@ fn walker_after<'s>(
     walker
 }
 
-/// The first piece of a read.
+/// The first piece that the walk hands over for this read.
 fn first_read(
     rt: &impl Abort,
     alloc: Global,

@@ -1,8 +1,8 @@
-//! Writing sectors of a snapshot, chunk by chunk: a chunk is found, or taken, once, and what was found is
-//! handed on.
+//! Writes to a snapshot, chunk by chunk: each chunk is looked up, or taken, once, and the result is used for all
+//! of its sectors.
 //!
-//! The number under which a chunk was taken says where its sectors are in the store. Where a new chunk lies
-//! on a disk is known from its copies, so that it is not looked up again for the write.
+//! A chunk's number determines where its sectors are in the store. Where a new chunk lies on a disk is known from
+//! its copies, so it isn't looked up again for the write.
 
 ghost use Rattle.dm_map.specs.Prelude.{true, None, Some, length, not, lower_len, IsStore, has_place, number_in, taken_at, snapshot_at, AreAskedOfChunk, AreAskedOfSnapshot, HasRoomFor, IsSnapshotWritten, IsWalked, is_keeping, store_writes, keep};
 ghost use Rattle.std.specs.Prelude.{◌≡◌, ◌+◌, ◌/◌, ◌<◌, ◌≤◌, ◌&&◌};
@@ -17,9 +17,9 @@ use crate::walk::take_chunk::take_new_chunk;
 use dm_stack::{DeviceId, Lower, ResolvedSnapshot};
 use dm_table::StoreKind;
 
-/// Hands over the units of writes to sectors of a snapshot, chunk by chunk.
+/// Hands over the writes to sectors of a snapshot, chunk by chunk.
 ///
-/// It is never inlined: the walk through lines and stripes is the faster for it.
+/// This is never inlined, which makes the walk through lines and stripes faster.
 #[inline(never)]
 pub(crate) fn write_snapshot<S: Sink, T: Taken>(
     walker: &mut Walker<'_, T>,
@@ -45,8 +45,8 @@ pub(crate) fn write_snapshot<S: Sink, T: Taken>(
     Ok(())
 }
 
-/// Hands over the units of writes to sectors of one chunk of a snapshot: the chunk is taken, if it was
-/// not, and then they are written where they are read from then on. All of them fail if the snapshot is lost.
+/// Hands over the writes to sectors of one chunk of a snapshot: takes the chunk if needed, and then writes the
+/// sectors in the store. All of them fail if the snapshot is lost.
 fn write_chunk<S: Sink, T: Taken>(
     walker: &mut Walker<'_, T>,
     device: DeviceId,
@@ -72,8 +72,8 @@ fn write_chunk<S: Sink, T: Taken>(
     }
 }
 
-/// Writes to sectors of a chunk that a valid snapshot has not taken. Where the store keeps what it has and has
-/// no place for one more, all of them fail, and nothing changes.
+/// Writes sectors of a chunk that a valid snapshot hasn't taken yet. If the store is full and of the kind that
+/// keeps its snapshot valid, all of them fail and nothing changes.
 fn write_new_chunk<S: Sink, T: Taken>(
     walker: &mut Walker<'_, T>,
     device: DeviceId,
@@ -110,8 +110,8 @@ fn write_new_chunk<S: Sink, T: Taken>(
     write_store(walker, &snapshot.store, at, len, sink)
 }
 
-/// Whether a write of a chunk that is not taken is refused: its store keeps what it has, and there is no place
-/// for one more.
+/// Whether a write to a chunk that isn't taken is refused: the store is full and of the kind that keeps its
+/// snapshot valid.
 fn is_refused<T: Taken>(
     walker: &Walker<'_, T>,
     device: DeviceId,
@@ -125,7 +125,7 @@ fn is_refused<T: Taken>(
     matches!(snapshot.kind, StoreKind::Keeping) && walker.is_full(device)
 }
 
-/// Writes sectors of a store, stretch by stretch.
+/// Hands over the writes to sectors of a store, one piece for each run of them that lies in a row on a disk.
 fn write_store<S: Sink, T: Taken>(
     walker: &mut Walker<'_, T>,
     store: &Lower,

@@ -1,11 +1,11 @@
--- What one walk over the lines notes is what each check finds first.
+-- The faults that one walk over the lines notes are the first faults of the checks.
 use Rattle.dm_stack.proofs.Prelude.{ℕ, Bool, true, false, cond, not, List, [], Option, Some, None, arith, refl, ap, ◌∙◌, length, nat_lt, ne_eqb, flat_map, DeviceSpec, Line, LoadFault, LoadKind, Empty, Gap, Overlap, Unknown, Stripe, Range, Snapshot, either, fault, faults_by, first_or, Description, bad_snapshots_in, empty_in, has_bad_stripes, is_bad_snapshot, is_unknown, misplaced_in, without_lines, AreFirst, no_bad_lines, noted_device, noted_devices, noted_line, noted_lines, or_bad, passes_end}
 use Rattle.dm_stack.specs.declared.checks.lines.BadLines.{BadLines}
 use Rattle.dm_stack.proofs.checks.LayoutLemmas.{misplaced_from, misplaced_rows}
 use Rattle.dm_stack.proofs.checks.PlacedLemmas.{first_devices}
 use Rattle.std.specs.Prelude.{◌≡◌, ◌+◌, ◌==◌, ◌∷◌, ◌++◌}
 
--- The first fault so far, and the next ones
+-- The first fault so far, and later ones
 
 or_none : (first : Option LoadFault) → first ≡ either first None
 or_none None = refl
@@ -21,7 +21,7 @@ or_more None [] later = refl
 or_more None (fault ∷ faults) later = refl
 or_more (Some fault) faults later = refl
 
--- One check over the lines of a device
+-- One check, over the lines of a device
 
 abbrev pub Of : Type 0
 Of = BadLines → Option LoadFault
@@ -50,7 +50,7 @@ empty_of stack seen device =
     by_line (λ found. found.empty) Empty (λ line. line.len == 0) stack (length device.lines) 0 (record seen { empty = or_bad seen.empty Empty device.at (length device.lines == 0) }) device.lines (λ end seen line. refl)
     ∙ rw (lines_or_none device device.lines) (or_more seen.empty (without_lines device device.lines) (faults_by Empty (λ line. line.at) (λ line. line.len == 0) device.lines))
 
--- One check over the devices
+-- One check, over the devices
 
 by_device : (of : Of) (faults_in : DeviceSpec → List LoadFault) (stack : Description) (seen : BadLines) (devices : List DeviceSpec) → ((seen : BadLines) (device : DeviceSpec) → of (noted_device stack seen device) ≡ either (of seen) (first_or (faults_in device) None))
     → of (noted_devices stack seen devices) ≡ either (of seen) (first_or (flat_map faults_in devices) None)
@@ -59,7 +59,7 @@ by_device of faults_in stack seen (device ∷ devices) each =
     by_device of faults_in stack (noted_device stack seen device) devices each
     ∙ rw (each seen device) (or_more (of seen) (faults_in device) (flat_map faults_in devices))
 
--- of a check that tests lines
+-- a check that tests each line
 by_test : (of : Of) (kind : LoadKind) (bad : Line → Bool) (stack : Description) → ((count end : ℕ) (seen : BadLines) (line : Line) → of (noted_line stack count end seen line) ≡ or_bad (of seen) kind line.at (bad line))
     → ((seen : BadLines) (device : DeviceSpec) → of (record seen { empty = or_bad seen.empty Empty device.at (length device.lines == 0) }) ≡ of seen) → of no_bad_lines ≡ None
     → of (noted_devices stack no_bad_lines stack.devices) ≡ first_or (flat_map (λ device. faults_by kind (λ line. line.at) bad device.lines) stack.devices) None

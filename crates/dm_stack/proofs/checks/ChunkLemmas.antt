@@ -1,4 +1,4 @@
--- What the check of snapshots says of their chunks.
+-- What the check of snapshots says about their chunk sizes.
 use Rattle.dm_stack.proofs.Prelude.{ℕ, false, not, nat_lt, List, [], arith, length, count_ones, is_power_of_two, All, AllByRecursion, flat_map, eqb-true, ltb-false, not-false, or_parts, All-from_recursion, ones_le_self, Snapshot, DeviceSpec, Line, Target, Description, lower_len, lower_of, HasGoodChunk, HaveGoodChunks, is_bad_chunk, is_bad_snapshot, snapshot, bad_snapshots_in, all_changed, append-nil_both}
 use Rattle.dm_table.specs.declared.tables.table.Target.TheVariants as targets
 use Rattle.dm_stack.proofs.checks.Passes.{faults_by_none}

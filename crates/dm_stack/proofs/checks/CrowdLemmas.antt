@@ -1,11 +1,11 @@
--- The places of all stores, counted line by line.
+-- How many chunks all stores have room for, counted line by line.
 use Rattle.dm_stack.proofs.Prelude.{ℕ, Bool, false, nat_lt, List, [], None, arith, refl, sym, ap, ◌∙◌, zero-add, map, drop, get_or, length, sum_by, le-ltb, ltb-false, sum_by-cons, Place, Line, Target, LoadKind, Limit, LoadFault, fault, faults_by, first_or, Description, all_places, places_of, resolved_target, HasGoodChunk, IsSound, WithBefore, all_lines, checks_after, target_places, with_before, first_fault-none, cond_none}
 use Rattle.dm_table.specs.declared.tables.table.Target.TheVariants as targets
 use Rattle.dm_stack.proofs.checks.PlacedLemmas.{next_before}
 use Rattle.dm_stack.proofs.checks.WithBefore.{further_on}
 use Rattle.std.specs.Prelude.{◌≡◌, ◌+◌, ◌<◌, ◌≤◌, ◌∷◌, ◌++◌}
 
--- Faults at elements that are made of others, or by a test that agrees
+-- Faults of mapped elements, and of tests that agree
 
 by_made : {X Y : Type 0} (kind : LoadKind) (place : Y → Place) (bad : Y → Bool) (f : X → Y) (xs : List X) → faults_by kind place bad (map f xs) ≡ faults_by kind (λ x. place (f x)) (λ x. bad (f x)) xs
 by_made kind place bad f [] = refl
@@ -15,12 +15,12 @@ pub by_same : {X : Type 0} (kind : LoadKind) (place : X → Place) (bad worse : 
 by_same kind place bad worse [] same = refl
 by_same kind place bad worse (x ∷ xs) same = let here = same x in let later = by_same kind place bad worse xs same in rw (here, later)
 
--- The lines from one on, where those before have used this many places
+-- The faults from a line on, if the stores of the lines before have room for `used` chunks
 
 abbrev pub line_places : Description → Line → ℕ
 line_places stack line = target_places stack line.target
 
--- by what the line says by ids, where its chunk is a good one
+-- the places of a line's store are the same with ids in place of names, if the chunk size is a permitted one
 pub places_are : (stack : Description) (target : Target) → HasGoodChunk target → places_of stack (resolved_target stack target) ≡ target_places stack target
 places_are stack (targets.Snapshot origin store kind chunk) good = rw good
 places_are stack _ good = refl
@@ -38,14 +38,14 @@ crowded_next stack used line lines few =
     ∙ by_same Limit (λ (l : WithBefore Line). l.it.at) (λ l. passes_most stack used (further_on line l)) (passes_most stack (used + line_places stack line)) (with_before lines)
     (λ l. ap (nat_lt 4194304) (let sum = sum_by-cons (line_places stack) line l.before in omega (arith, sum))))
 
--- The next line of a device, before the lines of later devices
+-- The next line of a device, with the lines of later devices after it
 
 pub crowded_passes : (stack : Description) (used places : ℕ) (items rest : List Line) (i : ℕ) (line : Line) → i < length items → line ≡ get_or items i line → places ≡ line_places stack line → used + places ≤ 4194304
     → first_or (crowded_from stack (used + places) (drop (i + 1) items ++ rest)) None ≡ first_or (crowded_from stack used (drop i items ++ rest)) None
 crowded_passes stack used places items rest i line within is are few =
     rw are (cc (crowded_next stack used line (drop (i + 1) items ++ rest) (omega (arith, are, few)), next_before items rest i line within is))
 
--- Where no line is found
+-- If no line is at fault, the stores have room for no more chunks than the limit
 
 few_from : (stack : Description) (used : ℕ) (lines : List Line) → used ≤ 4194304 → crowded_from stack used lines ≡ [] → used + sum_by (line_places stack) lines ≤ 4194304
 few_from stack used [] few none = omega (arith, few)

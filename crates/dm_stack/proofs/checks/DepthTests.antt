@@ -3,7 +3,7 @@ use Rattle.dm_stack.proofs.Prelude.{ℕ, suc, Bool, List, [], arith, refl, ◌�
 use Rattle.dm_stack.proofs.checks.RoundLemmas.{depths_to-at, depths_to-length}
 use Rattle.std.specs.Prelude.{◌≡◌, ◌+◌, ◌<◌, ◌∷◌}
 
--- tests that agree on the ids of these devices
+-- two tests that agree on the ids of these devices give the same faults
 same_tests : (kind : LoadKind) (p q : ℕ → Bool) (i : ℕ) (devices : List DeviceSpec) → ((id : ℕ) → id < i + length devices → p id ≡ q id) → faults_by_id kind p i devices ≡ faults_by_id kind q i devices
 same_tests kind p q i [] same = refl
 same_tests kind p q i (device ∷ devices) same =
@@ -11,7 +11,7 @@ same_tests kind p q i (device ∷ devices) same =
     let later : faults_by_id kind p (suc i) devices ≡ faults_by_id kind q (suc i) devices = same_tests kind p q (suc i) devices (λ id below. same id (omega arith)) in
     rw (here, later)
 
--- depths that were counted, and those that the check asks for
+-- the check on computed depths finds the faults that `deep` defines
 pub told_depths : (stack : Description) (depths : List ℕ) → depths ≡ depths_to (links stack) 33 → faults_by_id Deep (λ id. nat_lt 32 (get_or depths id 0)) 0 stack.devices ≡ deep stack
 told_depths stack depths e =
     same_tests Deep (λ id. nat_lt 32 (get_or depths id 0)) (λ id. nat_lt 32 (depth_of stack id)) 0 stack.devices

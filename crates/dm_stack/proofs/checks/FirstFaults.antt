@@ -1,8 +1,8 @@
--- The first fault of a check, by the element at which it is found.
+-- The first fault of a check, from the first element that is bad.
 use Rattle.dm_stack.proofs.Prelude.{inl, inr, ℕ, zero, suc, Bool, List, [], Option, Some, None, refl, ◌∙◌, arith, length, get_or, drop, slice_get, cases_Bool, drop_more, Place, Line, DeviceSpec, LoadKind, Limit, LoadFault, fault, faults_by, first_or, first_or-passed, first_or-found, Description, end_of, past, all_lines, too_many}
 use Rattle.std.specs.Prelude.{◌≡◌, ◌+◌, ◌-◌, ◌<◌, ◌≤◌, ◌∷◌, ◌++◌}
 
--- the fault at an element that was found, or else a later one
+-- the fault at the element found, or else a later fault
 abbrev pub at_found : {X : Type 0} → LoadKind → (X → Place) → Option X → Option LoadFault → Option LoadFault
 at_found kind place (Some x) later = Some (fault kind (place x))
 at_found kind place None later = later
@@ -38,7 +38,7 @@ pub many_lines : (stack : Description) (found : Option Line) → first_or (past 
 many_lines stack found few_devices few_disks is =
     rw is (many_parts stack ∙ first_or-passed (past 1024 (λ device. device.at) stack.devices) _ few_devices ∙ first_or-passed (past 1024 (λ disk. disk.at) stack.disks) _ few_disks ∙ first_past 65536 (λ line. line.at) (all_lines stack.devices) None)
 
--- An element of lists in a row
+-- An element of one of several lists that are joined
 
 pub get_front : {X : Type 0} (xs ys : List X) (n : ℕ) → n < length xs → slice_get (xs ++ ys) n ≡ slice_get xs n
 get_front [] ys n within = absurd (omega arith)
@@ -60,7 +60,7 @@ line_later devices i left device within is after =
     let sum : length device.lines + (left - length device.lines) ≡ left = omega arith in
     rw at (cc (get_after device.lines (all_lines (drop (i + 1) devices)) (left - length device.lines)))
 
--- The end of lines
+-- The end of a device's lines
 
 last_end : (first line : Line) (lines : List Line) → slice_get (first ∷ lines) (length lines) ≡ Some line → end_of (first ∷ lines) ≡ line.start + line.len
 last_end first line [] e = let same : first ≡ line = cc in rw same

@@ -1,9 +1,9 @@
--- What the checks hand on: ends within the limit, and faults that don't mean that memory ran out.
+-- What later checks rely on: ends of lines within the limit, and faults other than out of memory.
 use Rattle.dm_stack.proofs.Prelude.{ℕ, suc, Bool, true, false, cond, List, [], Option, Some, None, ◌∙◌, ap, drop, length, map, filter, nat_lt, All, AllByRecursion, flat_map, list_any, or_parts, ltb-false, All-from_recursion, Place, Line, DeviceSpec, LoadKind, Limit, Twice, Empty, Gap, Overlap, Unknown, Deep, Stripe, Range, Snapshot, Store, Memory, LoadFault, fault, faults_by, first_or, first_fault, spans, Description, end_of, Early, HaveSmallEnds, IsRefusedBy, Late, OnCycle, WithBefore, all_lines, checks_after, checks_before, crowded, deep, depth_of, empty, empty_in, faults_by_id, has_bad_store, has_bad_stripes, is_far, is_large, is_misplaced, is_unknown, misplaced, misplaced_in, misplaced_kind, range, snapshot, bad_snapshots_in, is_bad_snapshot, store, stripe, too_large, too_many, twice, unknown, with_before, without_lines, passes_end, all_append, all_changed, all_parts, append-nil_both}
 use Rattle.dm_stack.proofs.checks.Passes.{faults_by_none}
 use Rattle.std.specs.Prelude.{◌≡◌, ◌≢◌, ◌+◌, ◌^◌, ◌≤◌, ◌∷◌, ◌++◌, ◌||◌}
 
--- Ends within the limit
+-- Ends of lines within the limit
 
 pub line_within : (line : Line) → is_large line ≡ false → line.start + line.len ≤ 2 ^ 50
 line_within line large =
@@ -23,7 +23,7 @@ ends_within stack e =
     let none = append-nil_both _ _ e in
     All-from_recursion (λ device. HaveSmallEnds device.lines) stack.devices (devices_within stack.devices (faults_by_none Limit (λ line. line.at) is_large (all_lines stack.devices) none.0))
 
--- Faults that don't mean that memory ran out
+-- Faults other than out of memory
 
 abbrev pub IsNotMemory : LoadFault → Type 0
 IsNotMemory fault = fault.kind ≢ Memory
@@ -64,7 +64,7 @@ at_not_memory : (kind : LoadKind) (bad : ℕ → Bool) (id : ℕ) (devices : Lis
 at_not_memory kind bad id [] other = tt
 at_not_memory kind bad id (device ∷ devices) other = cond_not_memory (fault kind device.at) (faults_by_id kind bad (suc id) devices) (bad id) other (at_not_memory kind bad (suc id) devices other)
 
--- a fault of the checks before the one for cycles, and of those after it
+-- no fault of the checks before or after the one for cycles is out of memory
 before_not_memory : (stack : Description) (at : LoadFault) → first_fault (checks_before stack) ≡ Some at → IsNotMemory at
 before_not_memory stack at e =
     first_not_memory (too_many stack) _ at

@@ -7,16 +7,16 @@ pub end_of-more : (lines : List Line) (line : Line) → end_of (lines ++ line �
 end_of-more (first ∷ next ∷ lines) line = end_of-more (next ∷ lines) line
 end_of-more lines line = refl
 
--- The misplaced lines, one by one
+-- Misplaced lines, one by one
 
--- the gaps and overlaps of lines, the first of which is to start here
+-- the gaps and overlaps of lines of which the first should start at `end`
 abbrev pub misplaced_from : ℕ → List Line → List LoadFault
 misplaced_from end [] = []
 misplaced_from end (line ∷ lines) =
     let later = misplaced_from (line.start + line.len) lines in
     cond (not (line.start == end)) (fault (cond (nat_lt end line.start) Gap Overlap) line.at ∷ later) later
 
--- a line of a list after others
+-- a line of a list that comes after other lines
 abbrev pub after : List Line → WithBefore Line → WithBefore Line
 after before line = record { before = before ++ line.before; it = line.it }
 
@@ -44,9 +44,9 @@ rows_after before (line ∷ lines) =
 pub misplaced_rows : (lines : List Line) → misplaced_in lines ≡ misplaced_from 0 lines
 misplaced_rows lines = rw (after_none (with_before lines)) at (rows_after [] lines)
 
--- Lines of which none is misplaced
+-- Lists without misplaced lines
 
--- lines that start where the one before ends, the first one here
+-- each line starts where the one before ends, and the first one at `end`
 abbrev pub AreInRow : ℕ → List Line → Type 0
 AreInRow end [] = Unit {0}
 AreInRow end (line ∷ lines) = (line.start ≡ end) × AreInRow (line.start + line.len) lines

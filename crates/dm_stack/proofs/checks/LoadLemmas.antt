@@ -1,4 +1,4 @@
--- Checks in a row, what is named among devices that are there, and the first ring.
+-- Checks made in order, named devices that exist, and the first device on a cycle.
 use Rattle.dm_stack.proofs.Prelude.{ℕ, zero, suc, false, inl, inr, List, [], Option, Some, None, Result, Ok, Err, Vec, Global, arith, refl, sym, ap, ◌∙◌, drop, get_or, length, map, take, IfErr, IfOk, IfSome, IfNone, OnOk, IsErrAnd, result_err, AllByRecursion, flat_map, list_any, leb-false, or_parts, drop_more, length-map, length-take-le, take-append-drop, All-from_recursion, err_from_is_err_and, DevRef, DeviceSpec, LoadKind, Cycle, Memory, Unknown, LoadFault, Source, IsMemoryFault, fault, first_or, first_fault, Span, spans, Description, device_links, is_same, links, ref_link, IsClosed, IsFirstRing, Reaches, depths_to, greatest, links_in, links_of, stack_depth, Early, HasNoCycle, IsFirstCycle, IsRefusedBy, IsSound, Late, all_lines, checks_after, checks_before, crowded, is_unknown, is_unknown_ref, unknown, line_links, first_or-found, first_or-none, first_or-passed, all_append, all_parts}
 use Rattle.dm_table.specs.declared.tables.table.DevRef.TheVariants as refs
 use Rattle.dm_stack.proofs.checks.HandedOn.{each_in, refused_not_memory}
@@ -6,7 +6,7 @@ use Rattle.dm_stack.proofs.checks.Passes.{faults_by_none}
 use Rattle.dm_stack.proofs.lines.SpanLemmas.{none_past}
 use Rattle.std.specs.Prelude.{◌≡◌, ◌≢◌, ◌⊎◌, ◌+◌, ◌<◌, ◌∷◌}
 
--- Checks in a row
+-- Checks made in order
 
 abbrev pub FindNothing : List (List LoadFault) → Type 0
 FindNothing checks = AllByRecursion (λ faults. first_or faults None ≡ None) checks
@@ -19,20 +19,20 @@ pub none_found : (checks : List (List LoadFault)) → first_fault checks ≡ Non
 none_found [] e = tt
 none_found (faults ∷ checks) e = let parts = first_or-none faults (first_fault checks) e in (ap (λ (found : List LoadFault). first_or found None) parts.0, none_found checks parts.1)
 
--- the check of an index finds the first fault where those before it find nothing
+-- the first fault of the check with this index is that of all checks, if the checks before it find nothing
 first_at : (checks : List (List LoadFault)) (index : ℕ) (at : LoadFault) → FindNothing (take index checks) → first_or (get_or checks index []) None ≡ Some at → first_fault checks ≡ Some at
 first_at [] index at none e = absurd cc
 first_at (faults ∷ checks) zero at none e = first_or-found faults _ at e
 first_at (faults ∷ checks) (suc index) at none e = first_or-passed faults _ none.0 ∙ first_at checks index at none.1 e
 
--- a fault of the check of an index among those before the one for cycles, and among those after it
+-- the load is refused with the first fault of one of the checks before the one for cycles
 pub refused_early : (stack : Description) (index : ℕ) (at : LoadFault) → FindNothing (take index (checks_before stack)) → first_or (get_or (checks_before stack) index []) None ≡ Some at → IsRefusedBy stack at
 refused_early stack index at none e = Early (first_at (checks_before stack) index at none e)
 
 pub refused_late : (stack : Description) (index : ℕ) (at : LoadFault) → first_fault (checks_before stack) ≡ None → HasNoCycle stack → FindNothing (take index (checks_after stack)) → first_or (get_or (checks_after stack) index []) None ≡ Some at → IsRefusedBy stack at
 refused_late stack index at before acyclic none e = Late before acyclic (first_at (checks_after stack) index at none e)
 
--- after the last check, where the others found nothing
+-- the load passes if its last check finds nothing, and the checks before it found nothing
 pub sound_last : (stack : Description) (result : Result (Unit {0}) LoadFault) → first_fault (checks_before stack) ≡ None → HasNoCycle stack → FindNothing (take 5 (checks_after stack)) → result_err result ≡ first_or (crowded stack) None → OnOk result (IsSound stack)
 sound_last stack (Ok done) before acyclic none e = record {
   before = before;
@@ -45,16 +45,16 @@ pub refused_last : (stack : Description) (result : Result (Unit {0}) LoadFault) 
 refused_last stack (Ok done) before acyclic none e = tt
 refused_last stack (Err at) before acyclic none e = refused_late stack 5 at before acyclic none (sym e)
 
--- what the exit of a `?` returns is the fault that it was given
+-- a fault returned by `?` has the properties that the callee promised
 pub handed : {T : Type 0} (P : LoadFault → Type 0) (result : Result T LoadFault) (at : LoadFault) → IsErrAnd result (λ fault. fault ≡ at) → P at → IfErr result P
 handed P result at is holds = let p = err_from_is_err_and result is in rw (p.1, p.2) holds
 
--- a fault means that memory ran out, or it does not
+-- a fault is out of memory, or another one
 pub found_or_memory : {P Q : Type 0} (kind : LoadKind) → (kind ≢ Memory → P) → (kind ≡ Memory → Q) → P ⊎ Q
 found_or_memory Memory found memory = inr (memory refl)
 found_or_memory _ found memory = inl (found (λ e. cc))
 
--- why a load is refused, by whether memory ran out
+-- the load is refused for a fault other than out of memory
 pub refused_if : (stack : Description) (at : LoadFault) → IsRefusedBy stack at ⊎ IsMemoryFault Source at → at.kind ≢ Memory → IsRefusedBy stack at
 refused_if stack at (inl refused) other = refused
 refused_if stack at (inr memory) other = absurd (other (cc))
@@ -63,13 +63,13 @@ pub memory_if : (stack : Description) (at : LoadFault) → IsRefusedBy stack at 
 memory_if stack at (inl refused) is = absurd (refused_not_memory stack at refused is)
 memory_if stack at (inr memory) is = memory
 
--- what was made is as it was promised
+-- a value that was made has the properties that were promised for it
 pub made_ok : {T E : Type 0} (made : Result T E) (value : T) (P : T → Type 0) → made ≡ Ok value → IfOk made P → P value
 made_ok {T} {E} made value P is holds = rw is at holds
 
--- What is named is there
+-- Named devices exist
 
--- ids of devices of a stack
+-- all of these ids are ids of devices of the stack
 abbrev pub AreThere : Description → List ℕ → Type 0
 AreThere stack ids = AllByRecursion (λ id. id < length stack.devices) ids
 
@@ -104,7 +104,7 @@ closed_links stack e =
     let same : get_or (links_of (links stack) d) is.0 named ≡ named = is.2 in
     omega (arith, below, same, length-map stack.devices (device_links stack))
 
--- The first that reaches itself
+-- The first device on a cycle
 
 pub first_ring : (named : List (Vec ℕ Global)) (found : Option ℕ) → IfSome found (λ d. (d < length named) × Reaches (links_in named) d d) → IfSome found (λ d. (e : ℕ) → e < d → Reaches (links_in named) e e → ⊥) → IfNone found ((d : ℕ) → d < length named → Reaches (links_in named) d d → ⊥) → IsFirstRing (links_in named) found
 first_ring named (Some d) found first none = (omega (arith, found.0, length-map named (λ ids. ids.items)), found.1, first)

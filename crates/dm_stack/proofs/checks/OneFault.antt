@@ -1,4 +1,4 @@
--- A description is sound, or one fault refuses it, and never both.
+-- A stack is sound, or refused with exactly one fault, and never both.
 use Rattle.dm_stack.proofs.Prelude.{ℕ, Option, Some, None, arith, sym, ap, ◌∙◌, get_or, length, get_or-append_seam, length-append, LoadFault, Description, Early, HasNoCycle, IsFirstCycle, IsRefusedBy, IsSound, Late, OnCycle}
 use Rattle.std.specs.Prelude.{◌≡◌, ◌<◌, ◌∷◌}
 
@@ -8,7 +8,7 @@ ring_within stack found ring = omega (arith, ap length ring.split, length-append
 no_cycle : (stack : Description) (found : LoadFault) → HasNoCycle stack → IsFirstCycle stack found → ⊥
 no_cycle stack found acyclic ring = acyclic (length ring.before) (ring_within stack found ring) ring.cycle
 
--- of two first rings neither is before the other
+-- two first devices on cycles, neither of which comes before the other, are one
 pub same_place : (m n : ℕ) → (m < n → ⊥) → (n < m → ⊥) → m ≡ n
 same_place m n above below = grind (arith, above, below)
 

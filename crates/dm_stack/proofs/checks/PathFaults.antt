@@ -1,9 +1,9 @@
--- The faults of a list of paths: a name that stands twice, and then one of no disk.
+-- The faults of a list of paths: two for one disk, and then one for an unknown disk.
 use Rattle.dm_stack.proofs.Prelude.{ℕ, List, Bool, true, false, Option, None, Some, Result, Ok, Err, OnOk, IfErr, sym, ap, ◌∙◌, is_none, is_some, not, result_err, Source, Place, Memory, Unknown, LoadFault, IsMemoryFault, faults_by, first_or, first_or-passed}
 use Rattle.dm_stack.proofs.checks.HandedOn.{by_not_memory, first_not_memory}
 use Rattle.std.specs.Prelude.{◌≡◌, ◌≢◌}
 
--- no name stands twice, and the second check ran
+-- if no disk has two paths, the fault of the list is that of the second check
 pub known_passed : (first later : List LoadFault) (result : Result (Unit {0}) LoadFault) → first_or first None ≡ None → result_err result ≡ first_or later None → OnOk result (first_or first (first_or later None) ≡ None)
 known_passed first later (Ok done) none found = first_or-passed first _ none ∙ sym found
 known_passed first later (Err fault) none found = tt
@@ -18,7 +18,7 @@ pub known_memory : {X : Type 0} (place : X → Place) (bad : X → Bool) (xs : L
 known_memory place bad xs (Ok done) found = tt
 known_memory place bad xs (Err fault) found = λ memory. absurd (first_not_memory (faults_by Unknown place bad xs) None fault (by_not_memory Unknown place bad xs (λ e. cc)) (λ none. absurd cc) (sym found) memory)
 
--- whether a name was found
+-- a disk that isn't found is one that the stack doesn't have
 pub unknown_told : (found named : Option ℕ) (none : Bool) → is_some found ≡ not none → found ≡ named → none ≡ is_none named
 unknown_told None named true told same = ap is_none same
 unknown_told (Some id) named false told same = ap is_none same

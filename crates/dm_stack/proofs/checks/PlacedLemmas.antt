@@ -1,4 +1,4 @@
--- A walk over a list by what a test says of its next element.
+-- A walk over a list, by whether its next element passes a test.
 use Rattle.dm_stack.proofs.Prelude.{ℕ, Bool, true, false, List, [], Some, None, refl, sym, ap, drop, get_or, length, flat_map, drop_more, LoadFault, LoadKind, Place, DeviceSpec, Line, fault, faults_by, first_or, Description, all_lines, device_faults, line_faults}
 use Rattle.dm_stack.proofs.checks.FirstFaults.{by_append}
 use Rattle.std.specs.Prelude.{◌≡◌, ◌+◌, ◌<◌, ◌∷◌, ◌++◌}
@@ -18,7 +18,7 @@ good_here kind place test xs i x within is good =
     let here = sym good in
     rw (at, here)
 
--- an element of a list with more after it
+-- The next element of a list that is followed by another list
 
 pub next_before : {X : Type 0} (items rest : List X) (i : ℕ) (x : X) → i < length items → x ≡ get_or items i x → drop i items ++ rest ≡ x ∷ (drop (i + 1) items ++ rest)
 next_before items rest i x within is = rw (next_of items i x within is)
@@ -29,7 +29,7 @@ bad_before kind place test xs i x more within is bad =
     let here = sym bad in
     rw (at, here)
 
--- the faults of all lines are those of one device after the other
+-- the faults of all lines are those of the devices, one after the other
 by_devices : (kind : LoadKind) (test : Line → Bool) (devices : List DeviceSpec) → flat_map (λ device. faults_by kind (λ line. line.at) test device.lines) devices ≡ faults_by kind (λ line. line.at) test (all_lines devices)
 by_devices kind test [] = refl
 by_devices kind test (device ∷ devices) = rw (by_append, by_devices kind test devices)

@@ -1,10 +1,10 @@
--- A search: what is visited is reached, and all that is reached is visited once nothing waits.
+-- The search of a graph: only what is reached is visited, and when nothing waits, all that is reached has been.
 use Rattle.dm_stack.proofs.Prelude.{inl, inr, ℕ, zero, suc, Bool, true, false, not, cond, List, [], length, get_or, set, take, drop, replicate, Vec, sym, ap, ◌∙◌, true≢false, arith, get_or-set_other, get_or-set_same, Contains, cases_eq, take_more, take_all, take-append-le, length_push, length-map, length-replicate, Contains-append_left, Contains-push, Contains-push_cases, sum_by-set, links_in, links_of, Names, IsClosed, IsPath, Reaches, IsVisited, unvisited, Visits}
 use Rattle.std.specs.Global.{Global}
 use Rattle.dm_stack.proofs.checks.PathLemmas.{links_of-at, Reaches-named, Reaches-more}
 use Rattle.std.specs.Prelude.{◌≡◌, ◌⊎◌, ◌+◌, ◌<◌, ◌∷◌, ◌++◌}
 
--- marks
+-- Marks of visited devices
 
 IsVisited-below : (visited : List Bool) (d : ℕ) → IsVisited visited d → d < length visited
 IsVisited-below [] d is = absurd cc
@@ -30,13 +30,13 @@ marked_left visited d below fresh =
     let one : ◌≡◌ {A = ℕ} (cond (not (get_or visited d false)) 1 0) 1 = rw fresh in
     omega (arith, sum_by-set (λ b. cond (not b) 1 0) visited d true false below, one)
 
--- the marks that a visit leaves are all that there are
+-- after a visit in place, the marks are those that the visit left
 marks_whole : (n : ℕ) (after before : List Bool) → length after ≡ length before → n ≡ length before → take n (after ++ drop (length after) before) ≡ after
 marks_whole n after before same is_n = take-append-le n after (drop (length after) before) (omega arith) ∙ take_all n after (omega arith)
 
--- a visit
+-- One visit of the named devices
 
--- one more is named, which is visited already
+-- the next named device is visited already
 skipped : (front : List ℕ) (x : ℕ) (before after : List Bool) (waited waits : List ℕ) → Visits front before after waited waits → IsVisited after x → Visits (front ++ x ∷ []) before after waited waits
 skipped front x before after waited waits so_far is =
     let named : (e : ℕ) → Contains (front ++ x ∷ []) e → IsVisited after e = λ e there. elim (Contains-push_cases front x e there) [ inl earlier ↦ (so_far.marks e).1 (inr earlier) | inr same ↦ rw same at is ] in
@@ -56,7 +56,7 @@ Visits-skip named i before between after waited waiting waits below so_far is af
     let more = skipped (take i named) (get_or named i 0) before between waited waiting so_far is in
     rw (take_more named i 0 below, after_is, waits_is) more
 
--- one more is named, which is visited now and waits
+-- the next named device is marked and waits
 pushed : (front : List ℕ) (x : ℕ) (before after : List Bool) (waited waits : List ℕ) → Visits front before after waited waits → x < length after → get_or after x false ≡ false
     → Visits (front ++ x ∷ []) before (set after x true) waited (waits ++ x ∷ [])
 pushed front x before after waited waits so_far inside unmarked =
@@ -88,9 +88,9 @@ Visits-push named i before between after waited waiting waits below so_far insid
     let more = pushed (take i named) (get_or named i 0) before between waited waiting so_far inside unmarked in
     rw (take_more named i 0 below, after_is, waits_is) more
 
--- a search
+-- The whole search
 
--- what a search has come to: all that is visited is reached, and what it names is visited too, or it waits
+-- the state of the search: visited devices are reached from d, and what they name is visited or they still wait
 pub record Searched (g : List (List ℕ)) (d : ℕ) (visited : List Bool) (waiting : List ℕ) : Type 0 where
   pub size : length visited ≡ length g
   pub reached : (e : ℕ) → IsVisited visited e → Reaches g d e
@@ -107,7 +107,7 @@ Searched-first g d after waits size visit = record {
   looked = λ e is. elim (visit.fresh e is) [ inl earlier ↦ absurd (IsVisited-none (length g) e earlier) | inr there ↦ inl there ];
 }
 
--- the last that waits is looked at
+-- the search after the last waiting device is looked at
 Searched-next : (g : List (List ℕ)) (d next : ℕ) (before after : List Bool) (rest waits : List ℕ) → length after ≡ length g → Searched g d before (rest ++ next ∷ []) → Visits (links_of g next) before after rest waits → Searched g d after waits
 Searched-next g d next before after rest waits size search visit =
     let kept : (e : ℕ) → IsVisited before e → IsVisited after e = λ e is. (visit.marks e).1 (inl is) in
@@ -129,27 +129,27 @@ Searched-next g d next before after rest waits size search visit =
       ];
     }
 
--- once nothing waits, what is visited holds all that it names, and so all that is reached
+-- when nothing waits, every device on a path from a visited one is visited
 along : (g : List (List ℕ)) (d : ℕ) (visited : List Bool) → Searched g d visited [] → (x : ℕ) (between : List ℕ) (e : ℕ) → ((f : ℕ) → Names g x f → IsVisited visited f) → IsPath g x between e → IsVisited visited e
 along g d visited search x [] e closed path = closed e path
 along g d visited search x (m ∷ ms) e closed path =
     let onward : (f : ℕ) → Names g m f → IsVisited visited f = elim (search.looked m (closed m path.0)) [ inl waits ↦ absurd (omega (arith, waits.1)) | inr next ↦ next ] in
     along g d visited search m ms e onward path.1
 
--- what is named at an index is what the device names
+-- the list at a device's index is what the device names
 pub named_is : (links : List (Vec ℕ Global)) (d : ℕ) (named : Vec ℕ Global) (passed : List ℕ) → d < length links → named ≡ get_or links d named → passed ≡ named.items → passed ≡ links_of (links_in links) d
 named_is links d named passed below is_named is_passed = is_passed ∙ sym (links_of-at links d named below is_named)
 
 pub named_inside : (g : List (List ℕ)) (d n : ℕ) (passed : List ℕ) → IsClosed g → passed ≡ links_of g d → n ≡ length g → (e : ℕ) → Contains passed e → e < n
 named_inside g d n passed closed is_passed is_n e there = omega (arith, closed d e (rw is_passed at there))
 
--- one that waits is a device
+-- a waiting device is one of the graph's
 pub Searched-below : (links : List (Vec ℕ Global)) (d next : ℕ) (marks : List Bool) (waited rest : List ℕ) → Searched (links_in links) d marks waited → waited ≡ rest ++ next ∷ [] → next < length links
 Searched-below links d next marks waited rest search waited_is =
     let waits : Contains waited next = rw waited_is (Contains-push rest next) in
     omega (arith, IsVisited-below marks next (search.waits next waits), search.size, length-map links (λ v. v.items))
 
--- a mark that was read as none
+-- when nothing waits, a device that isn't marked isn't reached
 pub Searched-none : (g : List (List ℕ)) (d : ℕ) (visited : List Bool) (waiting : List ℕ) (read : Bool) → Searched g d visited waiting → waiting ≡ [] → read ≡ get_or visited d read → read ≡ false → Reaches g d d → ⊥
 Searched-none g d visited waiting read search none is_read unread reaches =
     let at_end : Searched g d visited [] = rw (← none) search in
@@ -157,7 +157,7 @@ Searched-none g d visited waiting read search none is_read unread reaches =
     let not_is : get_or visited d false ≡ false = sym (rw unread at is_read) in
     absurd (true≢false (sym is ∙ not_is))
 
--- the first visit, as the code makes it: in place, over all marks
+-- the search after its first visit, made in place over all marks
 pub Searched-begun : (g : List (List ℕ)) (d n m : ℕ) (named : List ℕ) (marks passed after : List Bool) (none waits : List ℕ) → named ≡ links_of g d → m ≡ length g → marks ≡ replicate m false → passed ≡ marks → none ≡ [] → n ≡ length marks
     → length after ≡ length passed → Visits named passed after none waits → Searched g d (take n (after ++ drop (length after) marks)) waits
 Searched-begun g d n m named marks passed after none waits named_is m_is marks_are passed_is none_is n_is same visit =
@@ -166,7 +166,7 @@ Searched-begun g d n m named marks passed after none waits named_is m_is marks_a
     let first : Visits (links_of g d) (replicate (length g) false) after [] waits = rw (← named_is, ← m_is, ← marks_are, ← passed_is, ← none_is) visit in
     rw (marks_whole n after marks as_marks n_is) (Searched-first g d after waits size first)
 
--- and each later one
+-- the search after each later visit, made in place
 pub Searched-on : (g : List (List ℕ)) (d next n : ℕ) (named : List ℕ) (marks passed after : List Bool) (waited rest waits : List ℕ) → named ≡ links_of g next → passed ≡ marks → n ≡ length marks → waited ≡ rest ++ next ∷ [] → length after ≡ length passed
     → Searched g d marks waited → Visits named passed after rest waits → Searched g d (take n (after ++ drop (length after) marks)) waits
 Searched-on g d next n named marks passed after waited rest waits named_is passed_is n_is waited_is same search visit =

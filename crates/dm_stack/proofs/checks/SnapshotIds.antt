@@ -1,4 +1,4 @@
--- The ids of snapshots, device by device.
+-- The ids of the devices that are snapshots, device by device.
 use Rattle.dm_stack.proofs.Prelude.{ℕ, Bool, cond, List, [], Some, arith, refl, sym, ap, ◌∙◌, get_or, length, filter, slice_get, range_with_len, filter-append, map-range_with_len_more, slice_get_read, map-id, DeviceSpec, lines_at, lines_or_none, has_snapshot}
 use Rattle.std.specs.Prelude.{◌≡◌, ◌+◌, ◌<◌, ◌∷◌, ◌++◌}
 
@@ -6,7 +6,7 @@ pub range_more : (n : ℕ) → range_with_len 0 (n + 1) ≡ range_with_len 0 n +
 range_more n =
     rw (← map-id (range_with_len 0 n)) (sym (map-id (range_with_len 0 (n + 1))) ∙ map-range_with_len_more (λ (x : ℕ). x) 0 n n (omega arith))
 
--- whether a device of a list has a snapshot's line
+-- the device with this id has a snapshot line
 abbrev pub is_over : List DeviceSpec → ℕ → Bool
 is_over devices id = has_snapshot (lines_at (record { devices = devices; disks = [] }) id)
 

@@ -1,4 +1,4 @@
--- A device is a store exactly where its depth is within the limit, once those that no store may be made of name themselves.
+-- A device may be a store exactly if its depth is within the limit once devices that can't hold one have links to themselves.
 use Rattle.dm_stack.proofs.Prelude.{ℕ, zero, suc, Bool, true, false, cond, not, nat_le, List, [], arith, inl, inr, refl, sym, ap, ◌∙◌, get_or, length, map, Some, Vec, Global, slice_get, Contains, flat_map, list_all, range_with_len, and-false, and-true, and_assoc, leb-suc-suc, fun_ext, cases_lt, le-leb, lt-leb, append-nil, get_or_past, length-map, map-append, Contains-append_cases, slice_get_past, slice_get_read, list_all-append, get_or-map-range_with_len, length-map-range_with_len, map-range_with_len_more, DevRef, DeviceSpec, Line, Target, Span, spans, Lower, Device, Disk, Description, device_links, is_ro_at, lines_at, lines_or_none, links, lower_of, ref_link, IsClosed, depth_to, depths_to, greatest, links_in, links_of, resolved_target, has_bad_store, has_deep_store, is_plain, is_shallow, is_store_to, may_store, store_links, store_links_at, store_links_of, line_links}
 use Rattle.dm_table.specs.declared.tables.table.DevRef.TheVariants as refs
 use Rattle.dm_table.specs.declared.tables.table.Target.TheVariants as targets
@@ -6,7 +6,7 @@ use Rattle.dm_stack.proofs.checks.PathLemmas.{links_of-at}
 use Rattle.dm_stack.proofs.checks.RoundLemmas.{depths_to-at, depths_to-length}
 use Rattle.std.specs.Prelude.{◌≡◌, ◌+◌, ◌<◌, ◌≤◌, ◌∷◌, ◌++◌, ◌⊎◌, ◌&&◌}
 
--- Tests of all elements
+-- Tests of all elements of a list
 
 all_flat : {X Y : Type 0} (p : Y → Bool) (f : X → List Y) (xs : List X) → list_all p (flat_map f xs) ≡ list_all (λ x. list_all p (f x)) xs
 all_flat p f [] = refl
@@ -19,9 +19,9 @@ all_both p q (x ∷ xs) = rw (all_both p q xs) (grind arith)
 all_same : {X : Type 0} (p q : X → Bool) (xs : List X) → ((x : X) → p x ≡ q x) → list_all p xs ≡ list_all q xs
 all_same p q xs same = ap (λ (test : _ → Bool). list_all test xs) (fun_ext same)
 
--- What a device names is a store, by its links
+-- Whether the devices that a device names may be stores
 
--- a device is a store through these levels
+-- the device may be a store, looked at through this many levels
 abbrev pub is_store_device : Description → ℕ → ℕ → Bool
 is_store_device stack levels device = is_store_to stack levels (Device device)
 
@@ -63,9 +63,9 @@ depth_first : (g : List (List ℕ)) (device : ℕ) → nat_le (depth_to g 1 devi
 unfolding depth_to
 depth_first g device = lt-leb _ 0 (omega arith)
 
--- The links of stores
+-- Links of devices, with a link to itself for each that can't hold a store
 
--- a device that names itself where it may not be in a store
+-- a link to itself makes a device fail the test
 marked : (p : ℕ → Bool) (device : ℕ) (ids : List ℕ) (may : Bool) → (may ≡ false → p device ≡ false) → list_all p (ids ++ cond may [] (device ∷ [])) ≡ (may && list_all p ids)
 marked p device ids true barred = rw (append-nil ids)
 marked p device ids false barred =
@@ -85,7 +85,7 @@ links_count stack = length-map-range_with_len (store_links_at stack) 0 (length s
 links_past : (stack : Description) (device : ℕ) → length stack.devices ≤ device → links_of (store_links stack) device ≡ []
 links_past stack device past = get_or_past (store_links stack) device [] (omega (arith, past, links_count stack))
 
--- where a device names itself, it is no store at any level
+-- through any number of levels, a device that can't hold a store names one that may not be a store
 all_marked : (stack : Description) (levels device : ℕ) → list_all (is_store_device stack levels) (links_of (store_links stack) device) ≡ (may_store (is_ro_at stack device) (lines_at stack device) && list_all (is_store_device stack levels) (links_of (links stack) device))
 all_marked stack levels device = elim (cases_lt device (length stack.devices)) [
   | inl within ↦ rw links_there (marked (is_store_device stack levels) device (links_of (links stack) device) (may_store (is_ro_at stack device) (lines_at stack device)) (barred_at stack levels device))
@@ -100,7 +100,7 @@ store_depth stack (suc levels) device =
     ∙ all_same (λ e. nat_le (depth_to (store_links stack) (suc levels) e) levels) (is_store_device stack levels) (links_of (store_links stack) device) (store_depth stack levels)
     ∙ all_marked stack levels device ∙ sym (store_step stack levels device)
 
--- What is named is there
+-- Linked devices exist
 
 closed_marked : (d e n : ℕ) (may : Bool) (ids : List ℕ) → d < n → ((e : ℕ) → Contains ids e → e < n) → Contains (store_links_of may d ids) e → e < n
 closed_marked d e n may ids within inside named = elim (Contains-append_cases ids (cond may [] (d ∷ [])) e named) [ inl earlier ↦ inside e earlier | inr last ↦ itself may last ]
@@ -121,7 +121,7 @@ closed_stores stack closed d e named =
       | inr past ↦ let here = rw links_past at named in absurd (omega (arith, here.1))
     ]
 
--- The depths that were counted
+-- Depths along these links
 
 past_store : (stack : Description) (device : ℕ) → length stack.devices ≤ device → is_store_device stack 32 device ≡ true
 past_store stack device past =
@@ -139,7 +139,7 @@ shallow_same stack depths (Device device) is = cc (by_place (cases_lt device (le
     by_place (inr past) =
         rw (get_or_past (depths_to (store_links stack) 33) device 0 (omega (arith, past, links_count stack, depths_to-length (store_links stack) 33))) (sym (past_store stack device past))
 
--- the store of a snapshot by ids may be none exactly where it is too deep
+-- a snapshot's store is bad exactly if it is too deep along these links
 pub deep_same : (stack : Description) (depths : List ℕ) (target : Target) → depths ≡ depths_to (store_links stack) 33 → has_deep_store depths (resolved_target stack target) ≡ has_bad_store stack target
 deep_same stack depths (targets.Snapshot origin store kind chunk) is = ap not (shallow_same stack depths (lower_of stack store) is)
 deep_same stack depths _ is = refl

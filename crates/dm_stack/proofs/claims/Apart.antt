@@ -1,11 +1,11 @@
--- Where no claims meet, two that may not share a sector are one column of one line.
+-- If no claims clash, two spans with a sector that they may not share are the same span of the same line.
 use Rattle.dm_stack.proofs.Prelude.{ℕ, false, Some, length, sym, ap, subst, ◌∙◌, option_map, slice_get, range_with_len, get_or_from_slice_get, slice_get-map, slice_get_within, Line, Use, Span, spans, Claim, Lower, Device, NeverMeet, HasSector, IsTidy, IsTop, claims, device_claims, may_share, span_claim, span_end, Description, lines_at, lower_len, lower_of}
 use Rattle.dm_stack.specs.claims.Claims.{line_claims}
 use Rattle.dm_stack.proofs.claims.MeetLemmas.{share_turn}
 use Rattle.dm_stack.proofs.claims.Parts.{PairsAt, number_at, pairs_at, pairs_part, part_there, same_part, same_place}
 use Rattle.std.specs.Prelude.{◌≡◌, ◌<◌, ◌≤◌}
 
--- a column of a line of a device, which names this lower one
+-- the span with this number, of the line with this number in the device, names this lower device or disk
 pub record IsNamed (stack : Description) (device place column : ℕ) (line : Line) (lower : Lower) : Type 0 where
   pub there : device < length stack.devices
   pub line_at : slice_get (lines_at stack device) place ≡ Some line
@@ -13,7 +13,7 @@ pub record IsNamed (stack : Description) (device place column : ℕ) (line : Lin
   pub span_at : slice_get (spans line) column ≡ Some span
   pub on : lower_of stack span.to ≡ lower
 
--- and which names a sector of it, to use it in this way
+-- the span names this lower sector, for this kind of use
 pub record IsVia (stack : Description) (device place column : ℕ) (line : Line) (lower : Lower) (at : ℕ) (kind : Use) : Type 0 where
   pub there : device < length stack.devices
   pub line_at : slice_get (lines_at stack device) place ≡ Some line
@@ -27,7 +27,7 @@ pub record IsVia (stack : Description) (device place column : ℕ) (line : Line)
 claim_at : (stack : Description) (device place column : ℕ) (line : Line) (lower : Lower) (at : ℕ) (kind : Use) (via : IsVia stack device place column line lower at kind) → slice_get (line_claims stack device line) column ≡ Some (span_claim stack device via.span)
 claim_at stack device place column line lower at kind via = slice_get-map (span_claim stack device) (spans line) column ∙ ap (option_map (span_claim stack device)) via.span_at
 
--- Two of one device, line by line and column by column
+-- Two claims of one device, line by line and span by span
 
 pub record AreOne (d e i j : ℕ) (l m : Line) : Type 0 where
   pub devices : d ≡ e
@@ -42,7 +42,7 @@ by_device stack d e p q i j l m x y same pairs on_p on_q at_i at_j never neither
     let lines : l ≡ m = cc (sym on_p ∙ ap (slice_get (lines_at stack d)) places ∙ on_q) in
     record { devices = same; lines = lines; columns = same_place NeverMeet (line_claims stack d l) i j x y (pairs_part NeverMeet (line_claims stack d) (lines_at stack d) p l pairs on_p) at_i (rw lines at_j) never neither }
 
--- two columns that name one sector are one, where they may not share it
+-- two spans that name one sector are the same if they may not share it
 pub one_via : (stack : Description) (d e p q i j : ℕ) (l m : Line) (lower : Lower) (at : ℕ) (one other : Use) → IsTidy stack → IsVia stack d p i l lower at one → IsVia stack e q j m lower at other → may_share one other ≡ false → AreOne d e i j l m
 one_via stack d e p q i j l m lower at one other tidy a b rivals =
     let x = span_claim stack d a.span in let y = span_claim stack e b.span in
@@ -60,7 +60,7 @@ one_via stack d e p q i j l m lower at one other tidy a b rivals =
     let same : d ≡ e = same_part NeverMeet (device_claims stack) ids d e on_d.0 on_e.0 d e x y pairs number_d (number_at (length stack.devices) e b.there) on_d.1 on_e.1 never neither in
     by_device stack d e p q i j l m x y same (pairs_part NeverMeet (device_claims stack) ids d d pairs number_d) a.line_at b.line_at at_d at_e never neither
 
--- nothing names a top device
+-- no line names a top device
 pub top_named : (stack : Description) (top d p i : ℕ) (l : Line) (lower : Lower) → IsTop stack top → IsNamed stack d p i l lower → lower ≡ Device top → ⊥
 top_named stack top d p i l lower is_top via same =
     let x = span_claim stack d via.span in

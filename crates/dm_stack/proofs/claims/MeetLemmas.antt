@@ -1,4 +1,4 @@
--- That two claims meet, as it is computed and as it is defined.
+-- The computed test for a clash of two claims agrees with its definition.
 use Rattle.dm_stack.proofs.Prelude.{inl, inr, ℕ, true, false, not, refl, sym, ap, ◌∙◌, arith, max, min, nat_lt, and_comm, and_from, and_parts, cases_Bool, eq-eqb, eqb-true, lt-ltb, ltb-true, not-true, true≢false, Use, Own, Reading, Serving, Claim, Lower, Device, Disk, Numbered, NeverMeet, MeetAt, may_share, is_same_lower, meets, rivals}
 use Rattle.std.specs.Prelude.{◌≡◌}
 
@@ -11,7 +11,7 @@ pub self_same : (lower : Lower) → is_same_lower lower lower ≡ true
 self_same (Device id) = eq-eqb id id refl
 self_same (Disk id) = eq-eqb id id refl
 
--- Either claim may come first
+-- The test doesn't depend on the order of the two claims
 
 same_turn : (one other : Lower) → is_same_lower one other ≡ is_same_lower other one
 same_turn (Device one) (Device other) = grind arith
@@ -31,7 +31,7 @@ meets_turn one other =
 pub rivals_turn : (count : ℕ) (one other : Numbered) → rivals count one other ≡ rivals count other one
 rivals_turn count one other = rw (and_comm (nat_lt one.number count) (nat_lt other.number count), meets_turn one.claim other.claim)
 
--- They meet exactly where some sector is in both, first of all at the greater start
+-- Two claims clash exactly if some sector is in both, the first of which is at the greater start
 
 meets_at : (one other : Claim) (lower : Lower) (sector : ℕ) → MeetAt one other lower sector → meets one other ≡ true
 meets_at one other lower sector met =

@@ -1,12 +1,12 @@
--- Lists in which a test passes for no two elements, in whichever order they stand.
+-- Lists in which no two elements pass a test, in whatever order they are.
 use Rattle.dm_stack.proofs.Prelude.{inl, inr, ℕ, zero, suc, Bool, true, false, cond, List, [], refl, sym, ap, subst, ◌∙◌, arith, get_or, length, AllPairs, list_any, swap, IsPermutation, eqb-true, eqb-false, or_parts, append-nil, append_assoc, get_or_append_left, length-append, get_or-append_seam, length-swap, swapped_from_swap, list_any_none, all_pairs_push, IsPermutation-keeps, has_pair}
 use Rattle.std.specs.Prelude.{◌≡◌, ◌⊎◌, ◌<◌, ◌∷◌, ◌++◌, ◌==◌}
 
--- at any two places
+-- no elements at two different indexes pass the test
 pub record HasNoPair {X : Type 0} (test : X → X → Bool) (xs : List X) : Type 0 where
   pub at : (i j : ℕ) (d : X) → i < length xs → j < length xs → (i ≡ j → ⊥) → test (get_or xs i d) (get_or xs j d) ≡ false
 
--- where an element stood before the elements at i and j changed places
+-- the index at which an element was before the elements at i and j were swapped
 abbrev stood : (i j now : ℕ) → ℕ
 stood i j now = cond (now == i) j (cond (now == j) i now)
 
@@ -32,7 +32,7 @@ no_pair_swapped test xs i j p q none = record {
       (none.at (stood i j a) (stood i j b) d (stood_within i j a (length xs) p q (omega (arith, long))) (stood_within i j b (length xs) p q (omega (arith, long))) (stood_apart i j a b apart));
 }
 
--- so of a list in any other order
+-- if no two elements pass the test, none do in any other order of the list
 pub no_pair_moved : {X : Type 0} (test : X → X → Bool) (xs ys : List X) → IsPermutation xs ys → HasNoPair test xs → HasNoPair test ys
 no_pair_moved test xs ys moved none = IsPermutation-keeps xs (HasNoPair test) none (λ l i j p q h. no_pair_swapped test l i j p q h) ys moved
 

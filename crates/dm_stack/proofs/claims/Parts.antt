@@ -1,9 +1,9 @@
--- What holds of each two elements of a list, where the list is made of parts: two elements of which it does not hold stand at one place.
+-- Relations between any two elements of a joined list: two elements for which the relation fails are at one index.
 use Rattle.dm_stack.proofs.Prelude.{ℕ, zero, suc, inl, inr, Bool, List, [], Some, length, refl, sym, ap, ◌∙◌, arith, find, slice_get, AllPairs, flat_map, position_or_len, range_with_len, cases_order, find_at, get_or-range_with_len, length-range_with_len, get_or_from_slice_get, slice_get-get_or, slice_get_within}
 use Rattle.dm_stack.proofs.checks.FirstFaults.{get_after, get_front}
 use Rattle.std.specs.Prelude.{◌≡◌, ◌+◌, ◌<◌, ◌∷◌, ◌++◌}
 
--- what holds of each two, by their places
+-- the relation holds for any two elements, the one with the smaller index first
 abbrev pub PairsAt : {X : Type 0} → (X → X → Type 0) → List X → Type 0
 PairsAt {X} R xs = (i j : ℕ) (a b : X) → slice_get xs i ≡ Some a → slice_get xs j ≡ Some b → i < j → R a b
 
@@ -12,7 +12,7 @@ pairs_at {X = X} R xs pairs i j a b at on less =
     let held = pairs i j a less (slice_get_within xs j b on) in
     rw (← get_or_from_slice_get xs i a a at, ← get_or_from_slice_get xs j b a on) held
 
--- one place, where neither order holds
+-- two elements for which the relation holds in neither order are at the same index
 pub same_place : {X : Type 0} (R : X → X → Type 0) (xs : List X) (i j : ℕ) (a b : X) → PairsAt R xs → slice_get xs i ≡ Some a → slice_get xs j ≡ Some b → (R a b → ⊥) → (R b a → ⊥) → i ≡ j
 same_place R xs i j a b pairs at on never neither = elim (cases_order i j) [
   | inl same ↦ same
@@ -20,7 +20,7 @@ same_place R xs i j a b pairs at on never neither = elim (cases_order i j) [
   | inr (inr more) ↦ absurd (neither (pairs j i b a on at more))
 ]
 
--- Places in two lists
+-- Indexes in two joined lists
 
 pub get_left : {X : Type 0} (us vs : List X) (i : ℕ) (a : X) → slice_get us i ≡ Some a → slice_get (us ++ vs) i ≡ Some a
 get_left us vs i a at = get_front us vs i (slice_get_within us i a at) ∙ at
@@ -37,7 +37,7 @@ pairs_right R us vs pairs i j a b at on less = pairs (length us + i) (length us 
 pairs_across : {X : Type 0} (R : X → X → Type 0) (us vs : List X) (i j : ℕ) (a b : X) → PairsAt R (us ++ vs) → slice_get us i ≡ Some a → slice_get vs j ≡ Some b → R a b
 pairs_across R us vs i j a b pairs at on = pairs i (length us + j) a b (get_left us vs i a at) (get_right us vs j b on) (let within = slice_get_within us i a at in omega (arith, within))
 
--- Parts in a row
+-- Indexes in a list joined from many parts
 
 pub part_there : {X Y : Type 0} (f : X → List Y) (xs : List X) (p k : ℕ) (x : X) (a : Y) → slice_get xs p ≡ Some x → slice_get (f x) k ≡ Some a → (n : ℕ) × (slice_get (flat_map f xs) n ≡ Some a)
 part_there f [] p k x a at on = absurd cc
@@ -64,7 +64,7 @@ same_part {X = X} R f (first ∷ xs) (suc p) zero k l x y a b pairs at on in_x i
 same_part R f (first ∷ xs) (suc p) (suc q) k l x y a b pairs at on in_x in_y never neither =
     ap suc (same_part R f xs p q k l x y a b (pairs_right R (f first) (flat_map f xs) pairs) at on in_x in_y never neither)
 
--- Places of numbers in a row, and of what a search finds
+-- Indexes in a range of numbers, and of the element that a search finds
 
 pub number_at : (count i : ℕ) → i < count → slice_get (range_with_len 0 count) i ≡ Some i
 number_at count i below =

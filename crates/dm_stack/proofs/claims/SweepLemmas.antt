@@ -1,15 +1,15 @@
--- What a claim meets of those before it, in the order of their starts, is told by how far they reach.
+-- Whether a claim clashes with one before it, in the order of starts, follows from how far those reach.
 use Rattle.dm_stack.proofs.Prelude.{ℕ, suc, Bool, true, false, cond, not, List, [], refl, sym, ap, ◌∙◌, arith, get_or, length, take, drop, fold, max, min, nat_lt, AllByRecursion, list_any, IsNonDecreasingBy, and-false, or-false, drop-cons, le-ltb, lt-ltb, get_or-take, get_or_default, length-take, take_more, recursion_from_All, fold-append, Use, Own, Reading, Serving, Lower, Numbered, may_share, is_same_lower, has_pair, held_end, no_reach, own_end, reach_meets, reach_next, reach_of, reach_with, rival_end, rivals}
 use Rattle.dm_stack.specs.declared.claims.reach.Reach.{Reach}
 use Rattle.std.specs.Prelude.{◌≡◌, ◌+◌, ◌<◌, ◌≤◌, ◌∷◌, ◌++◌, ◌||◌, ◌&&◌}
 
--- a claim that starts no earlier meets one of these, or the reach of others, exactly if it meets the reach of all; one with which it may share it never meets
+-- a claim that starts no earlier clashes with one of some claims exactly if it starts below their reach; a claim that it may share with adds nothing to the reach
 one_meets : (share : Bool) (start first end last reach : ℕ) → first ≤ start
     → ((nat_lt (max first start) (min last end) && not share) || (nat_lt start end && nat_lt start reach)) ≡ (nat_lt start end && nat_lt start (max reach (cond share 0 last)))
 one_meets true start first end last reach le = rw and-false (grind arith)
 one_meets false start first end last reach le = grind (arith, le)
 
--- the end that a claim must not start before is the greatest of those that it may not share with
+-- the end that a claim must not start below is the greatest end of those that it may not share with
 rival_more : (kind other : Use) (last : ℕ) (reach : Reach)
     → rival_end other (record { own = max reach.own (own_end kind last); held = max reach.held (held_end kind last); all = max reach.all last }) ≡ max (rival_end other reach) (cond (may_share kind other) 0 last)
 rival_more Own Own last reach = refl
@@ -17,7 +17,7 @@ rival_more Reading Own last reach = refl
 rival_more Serving Own last reach = refl
 rival_more kind other last reach = refl
 
--- one claim more: whether it counts, and whether it is on the same device or disk
+-- the reach with one more claim, which may have too high a number or be on another device or disk
 one_more : (counts same : Bool) (kind other : Use) (start first end last : ℕ) (reach : Reach) → first ≤ start
     → (((counts && true) && (same && (nat_lt (max first start) (min last end) && not (may_share kind other)))) || (nat_lt start end && nat_lt start (rival_end other reach)))
     ≡ (nat_lt start end && nat_lt start (rival_end other (cond (counts && same) (record { own = max reach.own (own_end kind last); held = max reach.held (held_end kind last); all = max reach.all last }) reach)))
@@ -45,7 +45,7 @@ none_reached : (start end : ℕ) (kind : Use) → (nat_lt start end && nat_lt st
 none_reached start end Own = grind arith
 none_reached start end kind = grind arith
 
--- In the order of the starts, at the claim of a place
+-- The claim at an index, in the order of starts
 
 starts_before : (order : List Numbered) (k : ℕ) (next : Numbered) → IsNonDecreasingBy (λ one. one.claim.start) order → k < length order → next ≡ get_or order k next → AllByRecursion (λ one. one.claim.start ≤ next.claim.start) (take k order)
 starts_before order k next sorted within is =
@@ -60,7 +60,7 @@ pub met : (count : ℕ) (order : List Numbered) (k : ℕ) (next : Numbered) → 
 met count order k next sorted within is below =
     cc (sym (or-false (list_any (λ one. rivals count one next) (take k order))), none_reached next.claim.start next.claim.end next.claim.kind, met_from count next (lt-ltb next.number count below) no_reach (take k order) (starts_before order k next sorted within is))
 
--- a claim that isn't counted meets none
+-- a claim whose number isn't below count is compared with none
 pub not_met : (count : ℕ) (next : Numbered) (before : List Numbered) → count ≤ next.number → list_any (λ one. rivals count one next) before ≡ false
 not_met count next [] past = refl
 not_met count next (one ∷ before) past =
@@ -81,7 +81,7 @@ counted count lower reach next below = cc (lt-ltb next.number count below)
 pub uncounted : (count : ℕ) (lower : Lower) (reach : Reach) (next : Numbered) → count ≤ next.number → reach ≡ reach_next count lower reach next
 uncounted count lower reach next past = cc (le-ltb next.number count past)
 
--- the search for a pair, from the next claim on
+-- the search for a clashing pair, from the next claim on
 search_here : (count : ℕ) (order : List Numbered) (k : ℕ) (next : Numbered) → k < length order → next ≡ get_or order k next
     → has_pair (rivals count) (take k order) (drop k order) ≡ (list_any (λ one. rivals count one next) (take k order) || has_pair (rivals count) (take (k + 1) order) (drop (k + 1) order))
 search_here count order k next within is =

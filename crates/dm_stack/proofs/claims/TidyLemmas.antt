@@ -1,11 +1,11 @@
--- Claims in the order of their starts, and in that of their list: the same pairs meet, and so the same claim is the first that meets an earlier one.
+-- The same pairs of claims clash in the order of starts and in the order of the list, so the same claim is the first that clashes with an earlier one.
 use Rattle.dm_stack.proofs.Prelude.{inl, inr, ℕ, zero, suc, Bool, true, false, not, List, [], Option, Some, None, refl, sym, ap, subst, ◌∙◌, arith, get_or, length, take, drop, find, nat_lt, option_map, slice_get, All, AllPairs, after_first, position_or_len, IsPermutation, and-false, drop-cons, cases_lt, lt-ltb, ltb-true, not-true, true≢false, drop_all, get_or-take, length-take, take-append-drop, take_more, find_at, fails_before_first, passes_at_first, split_at_first, get_or_from_slice_get, slice_get-get_or, slice_get_within, all_pairs_push, All-permutation, IsPermutation-sym, length_permutation, Claim, Numbered, NeverMeet, IsFirstClash, IsCounted, clash_of, clash_with, has_pair, is_tidy_to, meets, numbered, rivals}
 use Rattle.dm_stack.proofs.claims.MeetLemmas.{never_meet_from, meet_from, none_from, rivals_turn}
 use Rattle.dm_stack.proofs.claims.PairLemmas.{no_pair_from_pairs, no_pair_moved, pairs_from_no_pair, pairs_from_search, search_from_pairs}
 use Rattle.dm_stack.proofs.claims.SweepLemmas.{not_met}
 use Rattle.std.specs.Prelude.{◌≡◌, ◌⊎◌, ◌+◌, ◌<◌, ◌≤◌, ◌∷◌, ◌++◌, ◌&&◌}
 
--- Numbered claims
+-- Claims with their numbers
 
 numbered_append : (number : ℕ) (xs ys : List Claim) (later : ℕ) → later ≡ number + length xs → numbered number (xs ++ ys) ≡ numbered number xs ++ numbered later ys
 numbered_append number [] ys later e = let same : later ≡ number = omega (arith, e) in rw (← same)
@@ -35,7 +35,7 @@ counted_kept devices disks claims order moved counted = All-permutation (λ next
 pub order_length : (claims : List Claim) (order : List Numbered) → IsPermutation (numbered 0 claims) order → length order ≡ length claims
 order_length claims order moved = length_permutation (numbered 0 claims) order moved ∙ numbered_length 0 claims
 
--- Pairs of claims below an index
+-- Pairs of claims with numbers below count
 
 counted_pair : (count i j : ℕ) (b : Bool) → i < count → j < count → ((nat_lt i count && nat_lt j count) && b) ≡ b
 counted_pair count i j b p q = rw (lt-ltb i count p, lt-ltb j count q)
@@ -67,7 +67,7 @@ no_rivals_below count claims pairs i j d less within =
         cc (counted_pair count i j (meets (get_or claims i d.claim) (get_or claims j d.claim)) (omega arith) below, one, ap (meets (get_or (take count claims) i d.claim)) (sym other), none_from _ _ (pairs i j d.claim less (omega arith)))
     by false e within = rw (e, and-false)
 
--- no two claims below an index meet exactly if the walk finds none
+-- if the walk finds no clash, no two claims below count clash
 pub tidy_below : (count : ℕ) (claims : List Claim) (order : List Numbered) → IsPermutation (numbered 0 claims) order → is_tidy_to count order ≡ true → AllPairs NeverMeet (take count claims)
 tidy_below count claims order moved tidy =
     let found = pairs_from_search (rivals count) [] order (not-true _ tidy) (λ i j d less within. absurd (omega (arith, within))) in
@@ -100,7 +100,7 @@ pub clash_here : (before : List Claim) (k : ℕ) (earlier later : Claim) → k <
 clash_here before k earlier later within is met =
     rw ((drop-cons before k earlier within ∙ ap (λ (one : Claim). one ∷ drop (suc k) before) (sym is)), met)
 
--- what a search passed, where it found nothing
+-- if a search finds nothing, no element passes the test
 none_found : (test : Claim → Bool) (xs : List Claim) → find test xs ≡ None → All (λ one. test one ≡ false) xs
 none_found test xs e k d within = fails_before_first test xs k d (by (position_or_len test xs) (cases_lt (position_or_len test xs) (length xs)) (sym (find_at test xs) ∙ e))
   where

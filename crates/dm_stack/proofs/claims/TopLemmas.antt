@@ -1,4 +1,4 @@
--- What the claims of a stack are on, and which devices none of them are on.
+-- The devices and disks that claims of a stack are on, and the devices without claims.
 use Rattle.dm_stack.proofs.Prelude.{ℕ, zero, suc, Bool, true, false, not, List, [], Option, Some, None, refl, sym, ap, subst, ◌∙◌, arith, get_or, length, map, IfOk, IfSome, IsTrue, is_none, Result, Ok, Err, All, AllByRecursion, AllPairs, flat_map, list_any, position_or_len, range_with_len, get_or-append_seam, eq-eqb, eqb-true, ltb-false, or_parts, true≢false, get_or-map, get_or_append_left, length-append, length-map, fill_by_all, All-from_recursion, All-map, prefix_len-le-length, Any-from_list_any, list_any-append, get_or_from_slice_get, slice_get-get_or, DevRef, DeviceSpec, Line, Span, spans, Claim, Clash, Lower, Device, Disk, AreTops, NeverMeet, IsClash, IsFirstClash, IsLower, IsThere, IsTidy, IsTop, MeetAt, claims, device_claims, span_claim, span_end, Description, is_same, lines_at, lower_len, lower_of, is_device, is_named, line_names, IsReport, report_text, ResolvedDevice, resolved_device, resolved_line, IsSound, passes, IsCounted, passes_end, all_changed}
 use Rattle.std.specs.Prelude.{◌≡◌, ◌+◌, ◌<◌, ◌≤◌, ◌∷◌, ◌++◌, ◌↔◌}
 use Rattle.std.specs.declared.alloc.AllocError.{AllocError}
@@ -22,7 +22,7 @@ none_passes stack sound = All-map (λ device. All (λ line. by_id.passes_end sta
     All-map (λ line. by_id.passes_end stack line ≡ false) (resolved_line stack) device.lines
     (All-from_recursion (λ line. by_id.passes_end stack (resolved_line stack line) ≡ false) device.lines (all_changed (λ line. passes_end stack line ≡ false) (λ line. by_id.passes_end stack (resolved_line stack line) ≡ false) device.lines (λ line is. past_is stack line ∙ is) inside)))
 
--- What claims are on has an id of the stack, or the one past the last
+-- A claim is on a device or disk of the stack, or has the id just past the last
 
 id_within : {X : Type 0} (test : X → Bool) (xs : List X) → position_or_len test xs < length xs + 1
 id_within test xs = omega (arith, prefix_len-le-length (λ x. not (test x)) xs)
@@ -41,13 +41,13 @@ claims_within stack =
     All-from_recursion P (claims stack)
     (all_each P (device_claims stack) (range_with_len 0 (length stack.devices)) (λ device. all_each P (line_claims stack device) (lines_at stack device) (λ line. spans_within stack device (spans line))))
 
--- A device is named by a line exactly if a claim is on it
+-- A line names a device exactly if a claim is on the device
 
 any_flat : {X Y : Type 0} (test : Y → Bool) (f : X → List Y) (xs : List X) → list_any test (flat_map f xs) ≡ list_any (λ x. list_any test (f x)) xs
 any_flat test f [] = refl
 any_flat test f (x ∷ xs) = rw (← any_flat test f xs) (list_any-append test (f x) (flat_map f xs))
 
--- the lines of each device, by its id
+-- the lines of each device, by the device's id
 rows : (stack : Description) → map (λ device. device.lines) stack.devices ≡ map (lines_at stack) (range_with_len 0 (length stack.devices))
 rows stack =
     fill_by_all (lines_at stack) (map (λ (device : DeviceSpec). device.lines) stack.devices) (length stack.devices) [] (length-map stack.devices _)
@@ -56,7 +56,7 @@ rows stack =
 by_ids : (stack : Description) (test : List Line → Bool) → list_any (λ device. test (lines_at stack device)) (range_with_len 0 (length stack.devices)) ≡ list_any (λ device. test device.lines) stack.devices
 by_ids stack test = sym (any_map test (lines_at stack) (range_with_len 0 (length stack.devices))) ∙ ap (list_any test) (sym (rows stack)) ∙ any_map test (λ device. device.lines) stack.devices
 
--- a line names this device, by what it says by ids
+-- the line names the device, when seen with ids
 abbrev names_it : Description → ℕ → Line → Bool
 names_it stack device line = line_names device (resolved_line stack line)
 
@@ -95,11 +95,11 @@ top_is stack device = by (is_named stack device) refl
         (λ e. absurd (true≢false (sym e)), λ top. absurd (top claim.0 claim.1 claim.2 (cc (device_is device claim.1.to claim.4))))
     by false is = (λ e. top_from stack device is, λ top. refl)
 
--- the claims that were made are those of the stack
+-- the claims computed are those of the stack
 pub are_claims : (stack described : Description) (slice items : List Claim) → slice ≡ items → items ≡ claims described → described ≡ stack → slice ≡ claims stack
 are_claims stack described slice items same made is = rw (← is) (same ∙ made)
 
--- what is noted of the claims of a stack tells which devices are top
+-- the devices marked as unclaimed are the top devices
 pub noted_tops : {X : Type 0} (stack : Description) (all : List Claim) (count : ℕ) (items : X → List Bool) (result : Result X AllocError) → all ≡ claims stack → count ≡ length stack.devices → IfOk result (λ free. length (items free) ≡ count)
     → IfOk result (λ free. (device : ℕ) → device < count → get_or (items free) device false ≡ not (list_any (λ claim. is_device device claim.to) all)) → IfOk result (λ free. AreTops stack (items free))
 noted_tops stack all count items (Err fault) made counted len each = tt
@@ -124,9 +124,9 @@ pub untied : (stack : Description) (found : Option Clash) → IsFirstClash (clai
 untied stack None pairs = (λ e. pairs, λ tidy. refl)
 untied stack (Some clash) is = (λ e. absurd (true≢false (sym e)), λ tidy. absurd (clash_unties (claims stack) clash is tidy))
 
--- The clash of claims is one
+-- A list of claims has at most one first clash
 
--- at which places its claims stand
+-- the indexes of the two claims of a clash
 record Stands (all : List Claim) (clash : Clash) : Type 0 where
   one : ℕ
   other : ℕ
@@ -188,7 +188,7 @@ one_clash all None (Some other) a b = absurd (clash_unties all other b a)
 one_clash all (Some found) None a b = absurd (clash_unties all found a b)
 one_clash all (Some found) (Some other) a b = ap Some (same_clash all found other a.earlier (stands all found a) (stands all other b))
 
--- What a clash names is there
+-- The devices and the sector that a clash names are in the stack
 
 record Inside (stack : Description) (claim : Claim) : Type 0 where
   end : claim.end ≤ lower_len stack claim.to
@@ -240,6 +240,6 @@ found_there stack (Some clash) sound is =
       second = rw (s.of_other d) other.device;
     }
 
--- and so its report is one
+-- a stack has at most one report
 pub one_report : (stack : Description) (text other : List ℕ) → IsReport stack text → IsReport stack other → text ≡ other
 one_report stack text other a b = sym a.is ∙ ap (report_text stack) (one_clash (claims stack) a.found b.found a.clash b.clash) ∙ b.is

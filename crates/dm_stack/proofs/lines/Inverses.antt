@@ -1,8 +1,8 @@
--- Division by an inverse: the quotient is right, or one too small.
+-- Division by a precomputed inverse gives the quotient, or one less.
 use Rattle.dm_stack.proofs.Prelude.{ℕ, arith, div-add-mod', div-mul-add, mod-mul-add, mod_below, mul-le-mul_left, mul-le-mul_right, le_of_mul-le-mul_right, lt_of_mul-lt-mul_right}
 use Rattle.std.specs.Prelude.{◌≡◌, ◌+◌, ◌*◌, ◌/◌, ◌%◌, ◌<◌, ◌≤◌, ◌^◌}
 
--- a quotient is not too large, and at most one too small
+-- q is the quotient, or one less
 pub record IsNear (x d q : ℕ) : Type 0 where
   pub below : q * d ≤ x
   pub above : x < q * d + d + d
@@ -32,7 +32,7 @@ near_in x d b inverse some divides small low high =
 pub near : (x d inverse : ℕ) → 0 < d → x < 2 ^ 64 → inverse * d ≤ 2 ^ 64 → 2 ^ 64 ≤ inverse * d + d → IsNear x d (x * inverse / 2 ^ 64)
 near x d inverse divides small low high = near_in x d (2 ^ 64) inverse (omega arith) divides small low high
 
--- what is left below the divisor settles both
+-- q and r are quotient and remainder, as they are if r is below the divisor
 pub record IsDivided (x d q r : ℕ) : Type 0 where
   pub quotient : q ≡ x / d
   pub remainder : r ≡ x % d

@@ -1,4 +1,4 @@
--- Legs: what a target without a state has below its sectors goes on in a row as far as a leg does, and lies inside what it names.
+-- Legs: what lies below a line without state continues for a whole leg, and lies inside what the line names.
 use Rattle.dm_stack.proofs.Prelude.{ℕ, true, false, List, Option, Some, None, length, get_or, inl, inr, refl, sym, ap, subst, ◌∙◌, arith, min, slice_get, AllPass-from_list_all, slice_get_cases, ResolvedColumn, ResolvedTarget, Lower, Device, Disk, Beneath, Leg, StripePosition, Below, Lies, IsZero, IsError, below_column, below_plain, chunk_at, column_of, in_column, has_state, AreStripes, IsTargetSound, Description, disk_len, lower_len, is_disk, after_leg, has_disk_columns, AreInside, AreLeft, AreOnDisks, GoesOn, HasSectors, IsBeneath, IsLeg, LegsView, LiesOnDisk, IsStripePosition}
 use Rattle.dm_stack.specs.declared.lines.resolved_line.ResolvedTarget.TheVariants as found
 use Rattle.dm_stack.specs.declared.lines.leg.Beneath.TheVariants as beneath
@@ -11,9 +11,9 @@ use Rattle.std.specs.Prelude.{◌≡◌, ◌+◌, ◌-◌, ◌^◌, ◌<◌, ◌
 pub shorter : (target : ResolvedTarget) (distance m n : ℕ) (row : ℕ → Below) → m ≤ n → GoesOn target distance n row → GoesOn target distance m row
 shorter target distance m n row few on = record { plain = on.plain; below = λ i within. on.below i (omega (arith, few, within)); chunk = λ i within. on.chunk i (omega (arith, few, within)) }
 
--- One row of sectors
+-- Targets with one leg
 
--- a target that lies in one row, and has no chunks, has one leg for all the sectors
+-- a target that maps to consecutive sectors, without chunks, has one leg for all sectors
 pub row_leg : (target : ResolvedTarget) (to : Lower) (offset distance most : ℕ) → 1 ≤ most → has_state target ≡ false → ((d : ℕ) → below_plain target d ≡ Lies to (offset + d)) → ((d : ℕ) → chunk_at target d ≡ None)
     → IsLeg target distance most (record { below = beneath.Lies to (offset + distance); len = most })
 row_leg target to offset distance most some plain below chunk = record {
@@ -28,7 +28,7 @@ row_leg target to offset distance most some plain below chunk = record {
   next = λ less. absurd (omega (arith, less));
 }
 
--- Stripes
+-- Legs of striped lines
 
 pub column_small : (chunk_size distance n : ℕ) (columns : List ResolvedColumn) (position : StripePosition) (column : ResolvedColumn) → 1 ≤ n → HasSectors (found.Striped chunk_size columns) distance n → IsStripePosition chunk_size (length columns) distance position
     → column ≡ get_or columns position.column column → column.offset + (position.chunk_start + position.past) ≤ 2 ^ 50
@@ -56,7 +56,7 @@ striped_leg chunk_size distance most n sector columns position column some has a
       next = λ less. other_chunk chunk_size distance n chunk_some (omega (arith, len_is, less, at.past));
     }
 
--- what is left after one
+-- the sectors of a striped line that are left after a leg
 pub striped_next : (chunk_size distance most n : ℕ) (columns : List ResolvedColumn) (position next : StripePosition) → n ≤ most → n ≡ min most (chunk_size - position.past) → HasSectors (found.Striped chunk_size columns) distance most
     → IsStripePosition chunk_size (length columns) (distance + (chunk_size - position.past)) next → AreLeft chunk_size columns next (distance + n) (most - n)
 striped_next chunk_size distance most n columns position next within len_is has at = record {
@@ -64,9 +64,9 @@ striped_next chunk_size distance most n columns position next within len_is has 
   at = λ more. let e : chunk_size - position.past ≡ n = omega (arith, len_is, more) in rw e at at;
 }
 
--- What a leg lies on has its sectors
+-- The device or disk that a leg lies on has all of its sectors
 
--- a row of sectors
+-- the device or disk below a linear line or a column has the leg's sectors
 row_inside : (stack : Description) (len distance offset sector : ℕ) (lower to : Lower) → offset + len ≤ lower_len stack lower → distance < len → Lies lower (offset + distance) ≡ Lies to sector → sector < lower_len stack to
 row_inside stack len distance offset sector lower to there inside is =
     let lower_is : lower ≡ to = cc in let at : offset + distance ≡ sector = cc in
@@ -84,7 +84,7 @@ plain_inside stack device start len distance (found.Striped chunk_size columns) 
         rw (← lower_is) (omega (arith, room, sector_is, some))
 plain_inside stack device start len distance target to sector sound inside plain is = first_of (search row_inside, cc)
 
--- a device or a disk that it lies on is no longer than a line may be
+-- the sectors that a leg lies on are within the limit on lengths
 pub lies_small : (target : ResolvedTarget) (to : Lower) (sector distance n : ℕ) → has_state target ≡ false → below_plain target distance ≡ Lies to sector → 1 ≤ n → HasSectors target distance n → sector ≤ 2 ^ 50
 lies_small target to sector distance n plain is some has =
     let inside = plain_inside has.stack has.device has.start has.line_len distance target to sector has.lies (omega (arith, some, has.inside)) plain is in
@@ -102,7 +102,7 @@ leg_lies_inside stack device start len distance most target leg is sound inside 
 
 -- Legs on disks
 
--- a sector that lies on a disk
+-- a sector of a disk lies below
 pub record IsOnADisk (below : Below) : Type 0 where
   pub disk : ℕ
   pub sector : ℕ
@@ -123,11 +123,11 @@ sector_on_disk stack device start len distance (found.Striped chunk_size columns
     ]
 sector_on_disk stack device start len distance target sound each = absurd cc
 
--- the first sector of a row
+-- what lies below the first sector of a run
 row_first : (target : ResolvedTarget) (distance n : ℕ) (row : ℕ → Below) → 1 ≤ n → GoesOn target distance n row → below_plain target distance ≡ row 0
 row_first target distance n row some on = let e : distance ≡ distance + 0 = omega arith in ap (below_plain target) e ∙ on.below 0 (omega (arith, some))
 
--- where the first sector lies on a disk, the row does
+-- if the first sector of a leg lies on a disk, the whole leg does
 rows_on_disk : (target : ResolvedTarget) (distance n : ℕ) (below : Beneath) → 1 ≤ n → IsBeneath target distance n below → has_disk_columns target ≡ true → IsOnADisk (below_plain target distance) → LiesOnDisk below
 rows_on_disk target distance n (beneath.Lies (Disk disk) sector) some is each first = tt
 rows_on_disk target distance n (beneath.Lies (Device device) sector) some is each first = let here = row_first target distance n (λ i. Lies (Device device) (sector + i)) some is in absurd cc
@@ -135,12 +135,12 @@ rows_on_disk target distance n beneath.Zeros some is each first = let here = row
 rows_on_disk target distance n beneath.Errors some is each first = let here = row_first target distance n (λ i. IsError) some is in absurd cc
 rows_on_disk target distance n below some is each first = let other = ap has_disk_columns is in absurd cc
 
--- so the next leg of a row on disks lies on one
+-- the next leg of a line striped over disks lies on a disk
 pub leg_on_disk : (stack : Description) (legs : LegsView) (leg : Leg) → AreOnDisks stack legs → IsLeg legs.target legs.distance legs.left leg → LiesOnDisk leg.below
 leg_on_disk stack legs leg row is =
     rows_on_disk legs.target legs.distance leg.len leg.below is.some is.is row.columns (sector_on_disk stack row.device row.start row.len legs.distance legs.target row.sound row.columns)
 
--- on this one, from this sector on, and the disk has its sectors
+-- the leg lies on this disk from this sector on, and the disk has all of its sectors
 pub record IsDiskLeg (stack : Description) (legs : LegsView) (leg : Leg) (disk sector : ℕ) : Type 0 where
   pub on : GoesOn legs.target legs.distance leg.len (λ i. Lies (Disk disk) (sector + i))
   pub there : disk < length stack.disks
@@ -152,6 +152,6 @@ leg_lies_on stack legs leg disk sector row is below =
     let inside : sector + leg.len ≤ disk_len stack disk = subst (λ (b : Beneath). AreInside stack leg.len b) below lies in
     record { on = subst (λ (b : Beneath). IsBeneath legs.target legs.distance leg.len b) below is.is; there = disk_there stack disk sector (let some = is.some in omega (arith, some, inside)); inside = inside }
 
--- and the row after it is one on disks
+-- the legs left after one that lies on disks also lie on disks
 pub legs_after : (stack : Description) (legs : LegsView) (n : ℕ) → n ≤ legs.left → AreOnDisks stack legs → AreOnDisks stack (after_leg legs n)
 legs_after stack legs n few row = record { device = row.device; start = row.start; len = row.len; sound = row.sound; inside = let inside = row.inside in omega (arith, few, inside); columns = row.columns }

@@ -1,4 +1,4 @@
--- Counts of comparisons against binary digits, and the line of a sector by the starts of lines in a row.
+-- Comparisons of a search bounded by binary digits, and the line of a sector from the starts of lines.
 use Rattle.dm_stack.proofs.Prelude.{inl, inr, ℕ, zero, suc, true, false, List, [], Some, drop, length, length-append, get_or, map, refl, sym, ap, subst, add-one, arith, option_map, slice_get, AllByRecursion, pow_pos, length-drop, All-from_recursion, All-map, All-weaker, slice_get-get_or, mul-le-mul_left, pow-succ', Limit, DeviceSpec, Line, faults_by, ResolvedLine, found_at, resolved_line, resolved_lines, line_of, Description, device_len, end_of, lines_at, EndsAreSmall, EndsAt, IsLast, StartsAfter, StartsBy, binary_digits, digits_to, IsSound, all_lines, is_large, past, append-nil_both}
 use Rattle.dm_stack.specs.declared.lines.line_search.LastLine.{LastLine}
 use Rattle.dm_stack.proofs.checks.HandedOn.{line_within}
@@ -19,7 +19,7 @@ few_to (suc most) number (suc (suc k)) within few =
     let rest = few_to most (number / 2) (suc k) (omega (arith, within)) (omega (arith, few)) in
     grind (arith, few, some, rest)
 
--- a number whose double a power of two does not exceed has as many binary digits as the power's exponent
+-- a number has at least k binary digits if 2 ^ k is at most its double
 pub few_digits : (number k : ℕ) → 2 ^ k ≤ 2 * number → k ≤ binary_digits number
 few_digits number k few = few_to number number k (omega arith) few
 
@@ -27,7 +27,7 @@ digits_none : (most number : ℕ) → number ≡ 0 → digits_to most number ≡
 digits_none zero number none = refl
 digits_none (suc most) number none = rw none
 
--- a number below a power of two has at most as many binary digits as the power's exponent
+-- a number below 2 ^ k has at most k binary digits
 most_to : (most number k : ℕ) → number < 2 ^ k → digits_to most number ≤ k
 most_to most number zero small = omega (arith, digits_none most number (omega (arith, small)))
 most_to zero number (suc k) small = omega arith
@@ -36,7 +36,7 @@ most_to (suc most) number (suc k) small = grind (arith, most_to most (number / 2
 pub most_digits : (number k : ℕ) → number < 2 ^ k → binary_digits number ≤ k
 most_digits number k small = most_to number number k small
 
--- Comparisons, each of which halves how many starts are left to compare
+-- Comparisons, each of which halves the number of starts left to compare
 
 twice : (k : ℕ) → 2 ^ (k + 1) ≡ 2 * 2 ^ k
 twice k = rw (add-one k) (pow-succ' 2 k)
@@ -47,7 +47,7 @@ more-halved k half all total halves within = rw (twice k) (omega (arith, within,
 pub more-few : (k all total : ℕ) → 1 ≤ all → 2 ^ k * all < total → 2 ^ (k + 1) ≤ 2 * total
 more-few k all total some within = rw (twice k) (omega (arith, within, mul-le-mul_left (2 ^ k) some))
 
--- Starts
+-- Starts of lines
 
 pub starts_by : (lines : List ResolvedLine) (index sector : ℕ) (line : ResolvedLine) → index < length lines → (get_or lines index line).start ≤ sector → StartsBy lines index sector
 starts_by lines index sector line within from = rw (slice_get-get_or lines index line within) from
@@ -55,15 +55,15 @@ starts_by lines index sector line within from = rw (slice_get-get_or lines index
 pub starts_after : (lines : List ResolvedLine) (index sector : ℕ) (line : ResolvedLine) → index < length lines → sector < (get_or lines index line).start → StartsAfter lines index sector
 starts_after lines index sector line within before = rw (slice_get-get_or lines index line within) before
 
--- Lines in a row
+-- Lines that start where the one before ends
 
--- a line that starts at a sector or before it starts after the end of those before it
+-- a sector at or after the start of a line is at or after the end of the lines before it
 past_end : (stack : Description) (end : ℕ) (lines : List Line) (index sector : ℕ) → AreInRow end lines → StartsBy (map (resolved_line stack) lines) index sector → end ≤ sector
 past_end stack end [] index sector row from = absurd from
 past_end stack end (line ∷ lines) zero sector row from = omega (arith, row.0, from)
 past_end stack end (line ∷ lines) (suc index) sector row from = omega (arith, row.0, past_end stack (line.start + line.len) lines index sector row.1 from)
 
--- the line that starts at a sector or before it, where the next one starts after it, has the sector
+-- a line holds the sector if it starts at the sector or before, and the next one after it
 in_row_held : (stack : Description) (end : ℕ) (lines : List Line) (index sector : ℕ) → AreInRow end lines → sector < end_of lines
     → StartsBy (map (resolved_line stack) lines) index sector → StartsAfter (map (resolved_line stack) lines) (suc index) sector
     → slice_get (map (resolved_line stack) lines) index ≡ option_map (resolved_line stack) (line_of lines sector)
@@ -73,7 +73,7 @@ in_row_held stack end (line ∷ other ∷ lines) (suc index) sector row inside f
     rw (holds_none line sector (past_end stack (line.start + line.len) (other ∷ lines) index sector row.1 from)) (in_row_held stack (line.start + line.len) (other ∷ lines) index sector row.1 inside from next)
 in_row_held stack end lines index sector row inside from next = absurd from
 
--- what comes right after a line is in the next one
+-- the sector right after a line is in the next line
 in_row_next : (stack : Description) (end : ℕ) (lines : List Line) (index sector : ℕ) → AreInRow end lines → AllByRecursion (λ line. (line.len == 0) ≡ false) lines → sector < end_of lines
     → EndsAt (map (resolved_line stack) lines) index sector
     → StartsBy (map (resolved_line stack) lines) (suc index) sector × StartsAfter (map (resolved_line stack) lines) (suc (suc index)) sector
@@ -106,7 +106,7 @@ lines_length (first ∷ devices) (suc id) device at =
 none_past : (most : ℕ) (lines : List Line) → past most (λ line. line.at) lines ≡ [] → length lines ≤ most
 none_past most lines none = let rest = none_dropped (drop most lines) none in let dropped = length-drop most lines in omega (arith, dropped, ap length rest)
 
--- a device has no more lines than all of them may be
+-- a device has no more lines than all tables together may have
 pub few_lines : (stack : Description) (id : ℕ) → IsSound stack → id < length stack.devices → length (lines_at stack id) ≤ 65536
 few_lines stack id sound within =
     let d = there stack.devices id within in
@@ -117,7 +117,7 @@ few_lines stack id sound within =
     let same : length (lines_at stack id) ≡ length d.it.lines = ap length (lines_there stack id d.it d.at) in
     omega (arith, each, all, same)
 
--- so its number of lines has at most 17 binary digits
+-- the number of a device's lines has at most 17 binary digits
 pub few_halvings : (stack : Description) (id comparisons : ℕ) → IsSound stack → id < length stack.devices → comparisons ≤ binary_digits (length (lines_at stack id)) → comparisons ≤ 17
 few_halvings stack id comparisons sound within few =
     let lines = few_lines stack id sound within in
@@ -140,7 +140,7 @@ pub line_there : (stack : Description) (id index sector : ℕ) → IsSound stack
     → StartsBy (resolved_lines stack id) index sector → StartsAfter (resolved_lines stack id) (suc index) sector → slice_get (resolved_lines stack id) index ≡ found_at stack id sector
 line_there stack id index sector sound within inside from next = in_row_held stack 0 (lines_at stack id) index sector (row_there stack id sound within) inside from next
 
--- a sector at the end of the line of an index is in the next one
+-- the sector right after a device's line is in the device's next line
 next_there : (stack : Description) (id index sector : ℕ) → IsSound stack → id < length stack.devices → sector < device_len stack id → EndsAt (resolved_lines stack id) index sector
     → StartsBy (resolved_lines stack id) (suc index) sector × StartsAfter (resolved_lines stack id) (suc (suc index)) sector
 next_there stack id index sector sound within inside ends =
@@ -157,12 +157,12 @@ next_after stack last id sector sound within inside is here at =
     let two : suc (suc last.index) ≡ last.index + 2 = omega arith in
     (subst (λ (n : ℕ). StartsBy (resolved_lines stack id) n sector) one next.0, subst (λ (n : ℕ). StartsAfter (resolved_lines stack id) n sector) two next.1)
 
--- another line of a device that becomes the last one
+-- the last line found stays valid when it becomes another line of the device
 pub last_kept : (stack : Description) (id : ℕ) (old new : LastLine) → IsLast stack old → (new ≡ old) ⊎ ((new.device ≡ id) × EndsAt (resolved_lines stack id) new.index new.end) → IsLast stack new
 last_kept stack id old new is (inl same) = rw same is
 last_kept stack id old new is (inr found) = λ small. rw found.0 found.1
 
--- no line ends beyond the greatest length
+-- no line ends past the limit on lengths
 pub small_there : (stack : Description) (id : ℕ) → IsSound stack → id < length stack.devices → EndsAreSmall (resolved_lines stack id)
 small_there stack id sound within =
     let d = there stack.devices id within in

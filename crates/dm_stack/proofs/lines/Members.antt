@@ -1,4 +1,4 @@
--- The elements of a list that is filtered, and of lists that are put together.
+-- Elements of filtered lists and of joined lists.
 use Rattle.dm_stack.proofs.Prelude.{ℕ, zero, suc, Bool, true, false, cond, inl, inr, List, [], Some, arith, refl, sym, ap, ◌∙◌, filter, find, not, Contains, flat_map, list_any, position_or_len, range_with_len, All-contains, All-contains_itself, All-filter, Contains-append_cases, Contains-append_left, Contains-append_right, filter_passes, not-false, prefix_len_stops, find_at, list_any-from_Any, get_or_from_slice_get, slice_get_within, get_or-range_with_len, length-range_with_len}
 use Rattle.std.specs.Prelude.{◌≡◌, ◌<◌, ◌∷◌}
 
@@ -12,7 +12,7 @@ only_there x y is = (zero, omega arith, is)
 pub none_there : {X : Type 0} (x : X) → Contains [] x → ⊥
 none_there x (k, below, is) = omega (arith, below)
 
--- Those that pass a test
+-- Elements that pass a test
 
 kept_by : {X : Type 0} (x y : X) (rest : List X) (b : Bool) → Contains rest x → Contains (cond b (y ∷ rest) rest) x
 kept_by x y rest true named = Contains-append_right (y ∷ []) rest x named
@@ -29,7 +29,7 @@ kept_parts p xs x named = (
   All-contains (λ y. p y ≡ true) (filter p xs) x (filter_passes p xs) named,
 )
 
--- what is found is one of them, and passes
+-- an element that a search finds is in the list and passes the test
 pub found_there : {X : Type 0} (p : X → Bool) (xs : List X) (x : X) → find p xs ≡ Some x → Contains xs x × (p x ≡ true)
 found_there p xs x is =
     let at = sym (find_at p xs) ∙ is in
@@ -37,11 +37,11 @@ found_there p xs x is =
     let same = get_or_from_slice_get xs _ x x at in
     ((position_or_len p xs, within, same), rw same at (not-false _ (prefix_len_stops (λ y. not (p y)) xs x within)))
 
--- one of them passes where this does
+-- some element passes the test if this one does
 pub any_there : {X : Type 0} (p : X → Bool) (xs : List X) (x : X) → Contains xs x → p x ≡ true → list_any p xs ≡ true
 any_there p xs x named passes = list_any-from_Any p xs (named.0, x, named.1, named.2, passes)
 
--- Those that each element of another list gives
+-- Elements of lists that are joined, one for each element of another list
 
 pub record IsGiven {X Y : Type 0} (give : X → List Y) (xs : List X) (y : Y) : Type 0 where
   pub by : X

@@ -1,4 +1,4 @@
--- The snapshots of an origin: each of them is all of its device, and has that origin; and each such snapshot is among them.
+-- The snapshots of an origin: each one listed covers its device and has that origin, and every such snapshot is listed.
 use Rattle.dm_stack.proofs.Prelude.{ℕ, Bool, true, false, cond, List, [], Some, refl, sym, ◌∙◌, length, ap, filter, find, option_map, Contains, flat_map, list_any, range_with_len, append-nil, DevRef, Line, Target, ResolvedLine, ResolvedOver, ResolvedSnapshot, Lower, found_at, resolved_line, resolved_target, holds, Description, device_len, is_same_lower, lines_at, lower_of, has_snapshot, is_snapshot, all_over, copied, device_over, has_crowd, origin_over, over_of, resolved_snapshot, snapshots_over, IsSound, mapped}
 use Rattle.dm_table.specs.declared.tables.table.Target.TheVariants as targets
 use Rattle.dm_stack.specs.declared.lines.resolved_line.ResolvedTarget.TheVariants as found
@@ -7,7 +7,7 @@ use Rattle.dm_stack.proofs.lines.Members.{any_there, flat_part, flat_there, foun
 use Rattle.dm_stack.proofs.SnapshotRule.{any_found, lines_within, snapshot_line}
 use Rattle.std.specs.Prelude.{◌≡◌, ◌<◌}
 
--- What the lists are
+-- The lists of snapshots, as the code builds them
 
 pub over_is : (stack : Description) (to : Lower) → filter (λ one. is_same_lower one.snapshot.origin to) (all_over stack) ≡ snapshots_over stack to
 unfolding snapshots_over
@@ -29,7 +29,7 @@ pub none_copied : (stack : Description) (some : Bool) → all_over stack ≡ [] 
 none_copied stack true none is = copied_is stack true is
 none_copied stack false none is = sym none ∙ copied_is stack false is
 
--- the line of an origin, by ids
+-- an origin's line with ids, with its list of snapshots
 pub origin_is : (stack : Description) (origin : DevRef) (to : Lower) (all over : List ResolvedOver) → to ≡ lower_of stack origin → all ≡ copied stack → over ≡ filter (λ one. is_same_lower one.snapshot.origin to) all
     → found.Origin (record { to = to; over = over }) ≡ resolved_target stack (targets.Origin origin)
 origin_is stack origin to all over at are is =
@@ -38,7 +38,7 @@ origin_is stack origin to all over at are is =
 
 -- From the list to the devices
 
--- the target of a line that is this snapshot
+-- the target of a line of this device is this snapshot
 pub record IsTargetOf (stack : Description) (device : ℕ) (target : Target) (one : ResolvedOver) : Type 0 where
   pub here : one.device ≡ device
   pub over : is_snapshot target ≡ true
@@ -55,7 +55,7 @@ has_one stack device lines one named =
     let by = flat_part (λ (line : Line). over_of stack device line.target) lines one named in
     any_there (λ (line : Line). is_snapshot line.target) lines by.by by.there (target_one stack device by.by.target one by.given).over
 
--- a device that is this snapshot, all of it
+-- the device is this snapshot, which covers all of it
 pub record IsSnapshotDevice (stack : Description) (one : ResolvedOver) : Type 0 where
   pub there : one.device < length stack.devices
   pub line : found_at stack one.device 0 ≡ Some (record { start = 0; len = device_len stack one.device; target = found.Snapshot one.snapshot })
@@ -72,14 +72,14 @@ over_device stack device one sound within named =
           rw of.here (cc);
     }
 
--- each snapshot of an origin is the whole of its device, with that origin
+-- each snapshot listed for an origin covers its device and has that origin
 pub over_sound : (stack : Description) (to : Lower) (one : ResolvedOver) → IsSound stack → Contains (snapshots_over stack to) one → IsSnapshotDevice stack one × (one.snapshot.origin ≡ to)
 over_sound stack to one sound named =
     let passes = kept_parts (λ (o : ResolvedOver). is_same_lower o.snapshot.origin to) (all_over stack) one (rw (← over_is) at named) in
     let by = flat_part (device_over stack) (range_with_len 0 (length stack.devices)) one (rw all_is passes.0) in
     (over_device stack by.by one sound (range_within (length stack.devices) by.by by.there) by.given, same_is one.snapshot.origin to passes.1)
 
--- From a device to the list
+-- From the devices to the list
 
 target_all : (stack : Description) (device : ℕ) (target : Target) (snapshot : ResolvedSnapshot) → resolved_target stack target ≡ found.Snapshot snapshot → Contains (over_of stack device target) (record { device = device; snapshot = snapshot })
 target_all stack device (targets.Snapshot origin store kind chunk) snapshot is =
@@ -94,7 +94,7 @@ resolved_over stack device test lines line snapshot at is =
     let same : resolved_target stack first.0.target ≡ line.target = ap (λ (l : ResolvedLine). l.target) first.2 in
     flat_there (λ (l : Line). over_of stack device l.target) lines first.0 _ (found_there test lines first.0 first.1).0 (target_all stack device first.0.target snapshot (same ∙ is))
 
--- a snapshot is among those of its origin
+-- every snapshot is in the list of its origin
 pub over_all : (stack : Description) (device : ℕ) (line : ResolvedLine) (snapshot : ResolvedSnapshot) → found_at stack device 0 ≡ Some line → line.target ≡ found.Snapshot snapshot → Contains (snapshots_over stack snapshot.origin) (record { device = device; snapshot = snapshot })
 over_all stack device line snapshot at is =
     let one : ResolvedOver = record { device = device; snapshot = snapshot } in

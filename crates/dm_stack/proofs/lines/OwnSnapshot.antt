@@ -1,4 +1,4 @@
--- What was collected of the snapshot that a device is, is what the device's only line says.
+-- The snapshot collected for a device is the one that the device's only line describes.
 use Rattle.dm_stack.proofs.Prelude.{ℕ, Bool, true, false, cond, not, List, [], Some, ap, arith, refl, sym, ◌∙◌, length, slice_get, All, Contains, flat_map, list_any, range_with_len, and_from, eqb-true, not_from_false, true_from_ne_false, All-cons, All-nil, get_or_from_slice_get, slice_get_within, DeviceSpec, Line, Target, ResolvedOver, ResolvedSnapshot, Description, lines_at, is_snapshot, resolved_target, IsSnapshotOf, all_over, copied, device_over, has_crowd, is_whole, over_of}
 use Rattle.dm_table.specs.declared.tables.table.Target.TheVariants as targets
 use Rattle.dm_stack.specs.declared.lines.resolved_line.ResolvedTarget.TheVariants as found
@@ -15,7 +15,7 @@ said : (stack : Description) (target : Target) (snapshot : ResolvedSnapshot) →
 said stack (targets.Snapshot origin store kind chunk) snapshot is = cc
 said stack _ snapshot is = absurd cc
 
--- a device in which a line has to be alone has no other, where no device has a crowd
+-- if no table is crowded, a line that must be the only one of its device is
 alone : (devices : List DeviceSpec) (device : DeviceSpec) (line : Line) → list_any has_crowd devices ≡ false → Contains devices device → Contains device.lines line → is_whole line.target ≡ true → length device.lines ≡ 1
 alone devices device line none there held is =
     let some = any_there (λ (l : Line). is_whole l.target) device.lines line held is in

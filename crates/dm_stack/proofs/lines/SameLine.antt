@@ -1,4 +1,4 @@
--- The line of a sector is also that of each other sector that it holds.
+-- The line found for a sector is also found for every other sector that it holds.
 use Rattle.dm_stack.proofs.Prelude.{ℕ, false, List, [], length, Option, Some, None, refl, arith, nat_le, option_map, le-ltb, and-false, Line, ResolvedLine, Description, lines_at, holds, line_of, resolved_line, found_at, IsLineOf, IsSound, mapped}
 use Rattle.dm_stack.proofs.checks.LayoutLemmas.{AreInRow}
 use Rattle.dm_stack.proofs.SoundLines.{HoldsSoundly, there, device_sound, lines_there}
@@ -6,7 +6,7 @@ use Rattle.std.specs.Prelude.{◌≡◌, ◌+◌, ◌<◌, ◌≤◌, ◌∷◌}
 
 -- Lines that start where the one before ends
 
--- a line that was found starts after the end of those before it
+-- a line that is found starts at or after the end of the lines before it
 starts_after : (end : ℕ) (lines : List Line) (sector : ℕ) (line : Line) → AreInRow end lines → line_of lines sector ≡ Some line → end ≤ line.start
 starts_after end [] sector line e is = absurd cc
 starts_after end (first ∷ lines) sector line e is = grind (arith, is, e.0, starts_after (first.start + first.len) lines sector line e.1)
@@ -35,7 +35,7 @@ same_found stack id sector other line sound within is from before =
     let same = same_line 0 d.it.lines sector other m.0 s.placed held (omega (arith, start, from)) (omega (arith, start, len, before)) in
     cc
 
--- so what a search finds is the line of its sector
+-- a search returns the line of its sector
 pub resolved_line_of : (stack : Description) (id sector : ℕ) (line : ResolvedLine) → IsSound stack → id < length stack.devices → found_at stack id sector ≡ Some line → HoldsSoundly stack id line sector → IsLineOf stack id line sector
 resolved_line_of stack id sector line sound within is holds = record {
   from = holds.from;

@@ -1,4 +1,4 @@
--- The spans of a line by ids, one by one; they are those by names, with ids for these.
+-- The spans of a line with ids are those of the line with names, with ids in place of names.
 use Rattle.dm_stack.proofs.Prelude.{ℕ, zero, suc, Bool, true, false, cond, not, List, [], Some, None, arith, refl, ap, ◌∙◌, drop, length, map, find, is_none, nat_le, slice_get, flat_map, list_any, position_or_len, length-map, flat_map-map, map-map, leb-suc-suc, leb-suc-zero, DevRef, Line, Target, ResolvedLine, Description, device_links, is_same, lower_of, ref_link, resolved_device, is_unknown, is_unknown_ref, resolved_columns, resolved_line, resolved_target, is_missing, line_claims, lower_link, names_missing, target_spans}
 use Rattle.dm_table.specs.declared.tables.table.DevRef.TheVariants as refs
 use Rattle.dm_table.specs.declared.tables.table.Target.TheVariants as targets
@@ -22,11 +22,11 @@ drop_past [] (suc i) e = refl
 drop_past (x ∷ xs) zero e = absurd cc
 drop_past (x ∷ xs) (suc i) e = drop_past xs i e
 
--- the spans that an iterator has left
+-- the spans that an iterator has not returned yet
 abbrev pub spans_left : Spans → List Span
 spans_left left = drop left.index (spans left.line.now)
 
--- Lists of what is made of others, or by tests that agree
+-- Lists of images of elements, and tests that agree
 
 pub any_map : {X Y : Type 0} (test : Y → Bool) (f : X → Y) (xs : List X) → list_any test (map f xs) ≡ list_any (λ x. test (f x)) xs
 any_map test f [] = refl
@@ -44,9 +44,9 @@ flat_same : {X Y : Type 0} (f g : X → List Y) (xs : List X) → ((x : X) → f
 flat_same f g [] same = refl
 flat_same f g (x ∷ xs) same = let here = same x in let later = flat_same f g xs same in rw (here, later)
 
--- The spans of a line by ids
+-- The spans of a line with ids
 
--- a span, with the id of what it names
+-- the span with an id in place of the name
 abbrev pub by_id : Description → named.Span → Span
 by_id stack span = record { to = lower_of stack span.to; offset = span.offset; len = span.len; kind = span.kind }
 
@@ -59,11 +59,11 @@ target_are stack len _ = refl
 pub spans_are : (stack : Description) (line : Line) → spans (resolved_line stack line) ≡ map (by_id stack) (named.spans line)
 spans_are stack line = target_are stack line.len line.target
 
--- a test of them is one of those by names
+-- a test of the spans with ids is one of the spans with names
 pub any_span : (test : Span → Bool) (stack : Description) (line : Line) → list_any test (spans (resolved_line stack line)) ≡ list_any (λ span. test (by_id stack span)) (named.spans line)
 any_span test stack line = ap (list_any test) (spans_are stack line) ∙ any_map test (by_id stack) (named.spans line)
 
--- What is not there has an id past the last
+-- An unknown name has an id past the last
 
 pub none_past : {X : Type 0} (test : X → Bool) (xs : List X) → nat_le (length xs) (position_or_len test xs) ≡ is_none (find test xs)
 none_past test [] = refl
@@ -81,7 +81,7 @@ unknown_is stack line =
     any_span (λ span. is_missing stack span.to) stack line
     ∙ any_same (λ (span : named.Span). is_missing stack (lower_of stack span.to)) (λ span. is_unknown_ref stack span.to) (named.spans line) (λ span. missing_is stack span.to)
 
--- What a line by ids passes, names and claims
+-- What a line with ids passes, names and claims
 
 pub past_is : (stack : Description) (line : Line) → passes_end stack (resolved_line stack line) ≡ soundness.passes_end stack line
 past_is stack line = any_span _ stack line
@@ -98,11 +98,11 @@ links_are stack line =
 pub claims_are : (stack : Description) (device : ℕ) (line : Line) → line_claims stack device (resolved_line stack line) ≡ claims.line_claims stack device line
 claims_are stack device line = ap (map _) (spans_are stack line) ∙ map-map _ (by_id stack) (named.spans line)
 
--- what is made of each line by ids, where it is what is made of the line by names
+-- lists made from lines with ids are those made from lines with names, if they agree for each line
 pub flat_lines : {X : Type 0} (stack : Description) (f : ResolvedLine → List X) (g : Line → List X) (lines : List Line) → ((line : Line) → f (resolved_line stack line) ≡ g line) → flat_map f (map (resolved_line stack) lines) ≡ flat_map g lines
 flat_lines stack f g lines same = flat_map-map f (resolved_line stack) lines ∙ flat_same (λ line. f (resolved_line stack line)) g lines same
 
--- what the devices name
+-- the links of all devices, from lines with ids
 pub all_links : (stack : Description) → map (λ device. flat_map line_links device.table) (map (resolved_device stack) stack.devices) ≡ by_names.links stack
 all_links stack =
     map-map _ (resolved_device stack) stack.devices ∙ map_same _ (device_links stack) stack.devices (λ device. flat_lines stack line_links (by_names.line_links stack) device.lines (links_are stack))

@@ -1,8 +1,8 @@
--- Stripes: the column of a sector is one of the line's, its sector there is one of the column's share, and the next chunk is on the next column.
+-- Stripes: each sector's column exists and has the sector in its share, and the next chunk is in the next column.
 use Rattle.dm_stack.proofs.Prelude.{ℕ, zero, suc, false, List, [], Some, length, get_or, refl, sym, ap, arith, slice_get, AllByRecursion, row_fits, slice_get_read, div-lt_iff_lt-mul, ResolvedColumn, Description, lower_len, AreStripes, column_of, in_column, below_stripes, Lies, StripePosition, IsStripePosition, at_index}
 use Rattle.std.specs.Prelude.{◌≡◌, ◌+◌, ◌-◌, ◌*◌, ◌/◌, ◌%◌, ◌<◌, ◌≤◌, ◌∷◌, ◌==◌}
 
--- what is left of a chunk lies in its column's share of the line
+-- the rest of a chunk lies in the column's share of the line
 pub in_column_room : (chunk_size count column_len chunks len distance : ℕ) → 0 < chunk_size → 0 < count → len ≡ count * column_len → column_len ≡ chunks * chunk_size → distance < len
     → in_column chunk_size count distance + (chunk_size - distance % chunk_size) ≤ column_len
 in_column_room chunk_size count column_len chunks len distance chunk_some count_some shares whole inside =
@@ -12,7 +12,7 @@ in_column_room chunk_size count column_len chunks len distance chunk_some count_
     let left : distance % chunk_size < chunk_size = omega arith in
     rw whole (omega (arith, room, left))
 
--- the sectors of a chunk go on in one column
+-- consecutive sectors of a chunk are consecutive in one column
 pub record IsInChunk (chunk_size distance i : ℕ) : Type 0 where
   pub number : (distance + i) / chunk_size ≡ distance / chunk_size
   pub position : (distance + i) % chunk_size ≡ distance % chunk_size + i
@@ -20,14 +20,13 @@ pub record IsInChunk (chunk_size distance i : ℕ) : Type 0 where
 pub in_chunk : (chunk_size distance i : ℕ) → 0 < chunk_size → i < chunk_size - distance % chunk_size → IsInChunk chunk_size distance i
 in_chunk chunk_size distance i some within = record { number = grind (arith, some, within); position = grind (arith, some, within) }
 
--- what holds of each element holds of one
--- the column of a sector, as one of the columns
+-- the column of a sector is one of the line's columns
 pub column_got : (chunk_size distance : ℕ) (columns : List ResolvedColumn) (column : ResolvedColumn) → 0 < length columns → column ≡ get_or columns (column_of chunk_size (length columns) distance) column → slice_get columns (column_of chunk_size (length columns) distance) ≡ Some column
 column_got chunk_size distance columns column some e =
     let position : column_of chunk_size (length columns) distance < length columns = omega arith in
     slice_get_read columns (length columns) _ column refl position e
 
--- a sector of a striped line is one of those that its column names
+-- the device or disk of a column has the rest of a chunk
 pub column_inside : (stack : Description) (len chunk_size distance index : ℕ) (columns : List ResolvedColumn) (column : ResolvedColumn) → AreStripes stack len chunk_size columns → distance < len → slice_get columns index ≡ Some column
     → column.offset + in_column chunk_size (length columns) distance + (chunk_size - distance % chunk_size) ≤ lower_len stack column.to
 column_inside stack len chunk_size distance index columns column stripes inside is =
@@ -35,7 +34,7 @@ column_inside stack len chunk_size distance index columns column stripes inside 
     let room = in_column_room chunk_size (length columns) stripes.column_len stripes.chunks len distance stripes.chunk_some stripes.some stripes.shares stripes.whole inside in
     omega (arith, share, room)
 
--- what lies below a sector of what is left of a chunk
+-- what lies below a sector of the rest of a chunk
 pub below_chunk : (chunk_size distance i : ℕ) (columns : List ResolvedColumn) (column : ResolvedColumn) (position : StripePosition) → 0 < length columns → 0 < chunk_size → IsStripePosition chunk_size (length columns) distance position
     → i < chunk_size - position.past → column ≡ get_or columns position.column column → below_stripes chunk_size columns (distance + i) ≡ Lies column.to (column.offset + (position.chunk_start + position.past) + i)
 below_chunk chunk_size distance i columns column position some chunk_some at within is =
@@ -47,7 +46,7 @@ below_chunk chunk_size distance i columns column position some chunk_some at wit
 
 -- The position of the next chunk
 
--- the first sector after a chunk
+-- the distance of the first sector after a chunk
 pub record IsAfter (chunk_size distance : ℕ) : Type 0 where
   pub number : (distance + (chunk_size - distance % chunk_size)) / chunk_size ≡ distance / chunk_size + 1
   pub past : (distance + (chunk_size - distance % chunk_size)) % chunk_size ≡ 0
@@ -55,11 +54,11 @@ pub record IsAfter (chunk_size distance : ℕ) : Type 0 where
 pub after_chunk : (chunk_size distance : ℕ) → 0 < chunk_size → IsAfter chunk_size distance
 after_chunk chunk_size distance some = record { number = grind (arith, some); past = grind (arith, some) }
 
--- the first sector after a chunk is in another one
+-- the sector after the end of a chunk is in another chunk
 pub other_chunk : (chunk_size at n : ℕ) → 0 < chunk_size → n ≡ chunk_size - at % chunk_size → ((at + n - 1) / chunk_size == (at + n) / chunk_size) ≡ false
 other_chunk chunk_size at n some is = grind (arith, some, is)
 
--- on the next column
+-- the next chunk is in the next column
 pub position_within : (chunk_size count distance : ℕ) (position : StripePosition) → 0 < chunk_size → IsStripePosition chunk_size count distance position → position.column + 1 < count
     → IsStripePosition chunk_size count (distance + (chunk_size - position.past)) (record { column = position.column + 1; chunk_start = position.chunk_start; past = 0 })
 position_within chunk_size count distance position some at within =
@@ -73,7 +72,7 @@ position_within chunk_size count distance position some at within =
       past = sym next.past;
     })
 
--- after the last column, on the first one
+-- after the last column, the next chunk is in the first one
 pub position_after : (chunk_size count distance : ℕ) (position : StripePosition) → 0 < chunk_size → IsStripePosition chunk_size count distance position → position.column + 1 ≡ count
     → IsStripePosition chunk_size count (distance + (chunk_size - position.past)) (record { column = 0; chunk_start = position.chunk_start + chunk_size; past = 0 })
 position_after chunk_size count distance position some at last =

@@ -1,4 +1,4 @@
--- How deep a stack is.
+-- The depth of a stack, in levels of devices.
 use Rattle.dm_stack.specs.Base.{ℕ, suc, List, length, map, flat_map, range_with_len, spans}
 use Rattle.dm_stack.specs.declared.id.Lower.{Lower}
 use Rattle.dm_stack.specs.declared.id.Lower.TheVariants as lowers
@@ -7,19 +7,19 @@ use Rattle.dm_stack.specs.checks.Graph.{greatest}
 use Rattle.dm_stack.specs.checks.Soundness.{depth_of}
 use Rattle.std.specs.Prelude.{◌≡◌, ◌<◌}
 
--- the greatest depth of a device; 0 without devices
+-- the greatest depth of any device; 0 for a stack without devices
 abbrev pub stack_depth : Description → ℕ
 stack_depth stack = greatest (map (depth_of stack) (range_with_len 0 (length stack.devices)))
 
--- what the lines of a device name, and the depth of each of these: that of a device, and 0 of a disk
+-- the devices and disks that the lines of a device name, in order
 abbrev pub named_at : Description → ℕ → List Lower
 named_at stack device = map (λ span. lower_of stack span.to) (flat_map spans (lines_at stack device))
 
--- the depth of what is named by its id: 0 for a disk
+-- the depth of a device, or 0 for a disk
 abbrev pub lower_depth : Description → Lower → ℕ
 lower_depth stack (lowers.Device device) = depth_of stack device
 lower_depth stack (lowers.Disk disk) = 0
 
--- each device is one deeper than the deepest of what it names
+-- the depth of each device is one more than the greatest depth of what its lines name
 abbrev pub IsDeeperByOne : Description → Type 0
 IsDeeperByOne stack = (device : ℕ) → device < length stack.devices → depth_of stack device ≡ suc (greatest (map (lower_depth stack) (named_at stack device)))

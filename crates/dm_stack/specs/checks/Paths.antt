@@ -1,15 +1,15 @@
--- The checks of a list of paths against a stack.
+-- The checks of a list of image paths against the disks of a stack.
 use Rattle.dm_stack.specs.Base.{Bool, List, [], is_none, position, LoadFault, Unknown, faults_by}
 use Rattle.dm_table.specs.declared.tables.disk_path.DiskPath.{DiskPath}
 use Rattle.dm_stack.specs.Description.{Description, is_same}
 use Rattle.dm_stack.specs.checks.Soundness.{twice_in}
 use Rattle.std.specs.Prelude.{◌∷◌}
 
--- a path of a disk that the stack doesn't have
+-- the path is for a disk that the stack doesn't have
 abbrev pub is_unknown_path : Description → DiskPath → Bool
 is_unknown_path stack path = is_none (position (λ disk. is_same disk.name path.disk) stack.disks)
 
--- a disk that an earlier path names, then one that isn't there
+-- the faults of the list: first paths for a disk that an earlier one is for, then paths for unknown disks
 abbrev pub path_faults : Description → List DiskPath → List (List LoadFault)
 path_faults stack paths =
     twice_in (λ path. path.disk) (λ path. path.at) paths

@@ -1,4 +1,4 @@
--- Which lines name a device, as the code looks for it.
+-- Which lines name a device, as a test that code can run.
 use Rattle.dm_stack.specs.Base.{ℕ, Bool, false, map, list_any}
 use Rattle.dm_stack.specs.declared.lines.resolved_line.ResolvedLine.{ResolvedLine}
 use Rattle.dm_stack.specs.declared.id.Lower.{Lower}
@@ -8,15 +8,15 @@ use Rattle.dm_stack.specs.Stack.{resolved_device}
 use Rattle.dm_stack.specs.lines.Span.{spans}
 use Rattle.std.specs.Prelude.{◌==◌}
 
--- what is named is this device
+-- the device or disk is the device with this id
 abbrev pub is_device : ℕ → Lower → Bool
 is_device device (Device id) = id == device
 is_device device (Disk id) = false
 
--- the line names this device
+-- the line names the device with this id
 abbrev pub line_names : ℕ → ResolvedLine → Bool
 line_names device line = list_any (λ span. is_device device span.to) (spans line)
 
--- a line of any device names it
+-- some line of the stack names the device with this id
 abbrev pub is_named : Description → ℕ → Bool
 is_named stack device = list_any (λ found. list_any (line_names device) found.table) (map (resolved_device stack) stack.devices)

@@ -1,4 +1,4 @@
--- Legs: where the first sectors of a line lie, and how many go on like that.
+-- Legs: runs of a line's sectors with one thing below them: consecutive sectors, zeros, errors, or a snapshot's or origin's.
 use Rattle.dm_stack.specs.Base.{ℕ, Bool, false, true, List, length, StripePosition}
 use Rattle.dm_stack.specs.declared.lines.resolved_columns.ResolvedColumn.{ResolvedColumn}
 use Rattle.dm_stack.specs.declared.id.Lower.TheVariants.{Disk}
@@ -15,7 +15,7 @@ use Rattle.dm_stack.specs.checks.Soundness.{IsSound}
 use Rattle.dm_stack.specs.lines.StripePosition.{IsStripePosition}
 use Rattle.std.specs.Prelude.{◌≡◌, ◌+◌, ◌-◌, ◌≤◌, ◌<◌}
 
--- a line with this target could stand in a stack without a fault, and has len sectors from a distance from its start on
+-- a target whose line could be in a sound stack, and has len sectors from a distance into the line
 pub record HasSectors (target : ResolvedTarget) (distance len : ℕ) : Type 0 where
   pub stack : Description
   pub sound : IsSound stack
@@ -26,13 +26,13 @@ pub record HasSectors (target : ResolvedTarget) (distance len : ℕ) : Type 0 wh
   pub inside : distance + len ≤ line_len
   pub small : line_len ≤ MOST_LENGTH
 
--- below len sectors of a target without a state lies what a row says, and they are in one chunk
+-- what lies below len sectors of a line without state is as row says, and the sectors are all in one chunk
 pub record GoesOn (target : ResolvedTarget) (distance len : ℕ) (row : ℕ → Below) : Type 0 where
   pub plain : has_state target ≡ false
   pub below : (i : ℕ) → i < len → below_plain target (distance + i) ≡ row i
   pub chunk : (i : ℕ) → i < len → chunk_at target (distance + i) ≡ chunk_at target distance
 
--- what lies below len sectors: sectors in a row, zeros or errors; or the target is one with a state
+-- what lies below len sectors: consecutive sectors, zeros, or errors; or the target is a snapshot or an origin
 abbrev pub IsBeneath : ResolvedTarget → (distance len : ℕ) → Beneath → Type 0
 IsBeneath target distance len (beneath.Lies to sector) = GoesOn target distance len (λ i. Lies to (sector + i))
 IsBeneath target distance len beneath.Zeros = GoesOn target distance len (λ i. IsZero)
@@ -40,7 +40,7 @@ IsBeneath target distance len beneath.Errors = GoesOn target distance len (λ i.
 IsBeneath target distance len (beneath.Snapshot snapshot) = target ≡ found.Snapshot snapshot.now
 IsBeneath target distance len (beneath.Origin origin) = target ≡ found.Origin origin.now
 
--- the first of at most so many sectors of a line, from a distance from its start on; where there are more, they lie in stripes, and the next one is in another chunk
+-- a leg of at most `most` sectors from a distance into a line; if it is shorter, the line is striped and the sector after the leg is in another chunk
 pub record IsLeg (target : ResolvedTarget) (distance most : ℕ) (leg : Leg) : Type 0 where
   pub some : 1 ≤ leg.len
   pub within : leg.len ≤ most
@@ -48,37 +48,37 @@ pub record IsLeg (target : ResolvedTarget) (distance most : ℕ) (leg : Leg) : T
   pub striped : leg.len < most → is_striped target ≡ true
   pub next : leg.len < most → is_same_chunk (chunk_at target (distance + leg.len - 1)) (chunk_at target (distance + leg.len)) ≡ false
 
--- what the sectors of a leg lie on has them
+-- the device or disk that a leg lies on has all of its sectors
 abbrev pub AreInside : Description → (len : ℕ) → Beneath → Type 0
 AreInside stack len (beneath.Lies to sector) = sector + len ≤ lower_len stack to
 AreInside stack len _ = Unit {0}
 
--- a row of legs: its target, the distance of the next sector, and how many are left
+-- an iterator over legs: the target, the distance of the next sector into the line, and how many sectors are left
 pub record LegsView : Type 0 where
   pub target : ResolvedTarget
   pub distance : ℕ
   pub left : ℕ
 
--- the legs that are left after one of this length
+-- the iterator after a leg of this length
 abbrev pub after_leg : LegsView → (len : ℕ) → LegsView
 after_leg legs len = record { target = legs.target; distance = legs.distance + len; left = legs.left - len }
 
--- the sectors that are left of a striped line are there, and this is the position of the first one
+-- the striped line has the sectors that are left, and the position of the first of them is this one
 pub record AreLeft (chunk_size : ℕ) (columns : List ResolvedColumn) (position : StripePosition) (distance left : ℕ) : Type 0 where
   pub there : HasSectors (found.Striped chunk_size columns) distance left
   pub at : 0 < left → IsStripePosition chunk_size (length columns) distance position
 
--- a target is striped, with all its columns on disks
+-- the target is striped, and all its columns are on disks
 abbrev pub has_disk_columns : ResolvedTarget → Bool
 has_disk_columns (found.Striped chunk columns) = are_on_disks columns
 has_disk_columns _ = false
 
--- the sectors of a leg lie in a row on a disk
+-- the leg lies on a disk
 abbrev pub LiesOnDisk : Beneath → Type 0
 LiesOnDisk (beneath.Lies (Disk disk) sector) = Unit {0}
 LiesOnDisk _ = ⊥
 
--- a row of legs lies on disks of a stack: its target could stand there in a line that has the sectors that are left, and has columns on disks
+-- the legs that are left lie on disks: the target is striped over disks, sound in this stack, and has the sectors that are left
 pub record AreOnDisks (stack : Description) (legs : LegsView) : Type 0 where
   pub device : ℕ
   pub start : ℕ

@@ -8,29 +8,29 @@ use Rattle.dm_stack.specs.Description.{Description, is_same_lower, lines_at, low
 use Rattle.dm_stack.specs.checks.Soundness.{is_bad_chunk}
 use Rattle.std.specs.Prelude.{◌≡◌, ◌==◌, ◌&&◌, ◌∷◌, if◌then◌else◌}
 
--- a chunk that is within its limits; 1 for any other, which a load refuses
+-- the chunk size if it is a permitted one; else 1, for a snapshot that a load refuses anyway
 abbrev pub fit_chunk : ℕ → ℕ
 fit_chunk chunk = if is_bad_chunk chunk then 1 else chunk
 
--- what a snapshot's line says, with ids for names
+-- the snapshot that a line describes, with ids in place of names
 abbrev pub resolved_snapshot : Description → (origin store : DevRef) → StoreKind → (chunk : ℕ) → ResolvedSnapshot
 resolved_snapshot stack origin store kind chunk = record { origin = lower_of stack origin; store = lower_of stack store; kind = kind; chunk = fit_chunk chunk }
 
--- a snapshot is what a line with this target says, if that is a snapshot's
+-- if the target is a snapshot, it is this one, with ids in place of names
 abbrev pub IsSnapshotOf : Description → ResolvedSnapshot → Target → Type 0
 IsSnapshotOf stack snapshot (targets.Snapshot origin store kind chunk) = snapshot ≡ resolved_snapshot stack origin store kind chunk
 IsSnapshotOf stack snapshot _ = Unit {0}
 
--- the snapshot that a line of a device with this target is; one of any other target is none
+-- the snapshot of a line of this device, as a list of one; an empty list for any other target
 abbrev pub over_of : Description → (device : ℕ) → Target → List ResolvedOver
 over_of stack device (targets.Snapshot origin store kind chunk) = record { device = device; snapshot = resolved_snapshot stack origin store kind chunk } ∷ []
 over_of stack device _ = []
 
--- the snapshots among the lines of a device, with that device
+-- the snapshots among the lines of a device, each with the device's id
 abbrev pub device_over : Description → (device : ℕ) → List ResolvedOver
 device_over stack device = flat_map (λ line. over_of stack device line.target) (lines_at stack device)
 
--- all snapshots, with their devices: in the order of the source
+-- all snapshots of the stack, each with its device's id, in the order of the tables
 unfoldable pub all_over : Description → List ResolvedOver
 all_over stack = flat_map (device_over stack) (range_with_len 0 (length stack.devices))
 
@@ -38,20 +38,20 @@ all_over stack = flat_map (device_over stack) (range_with_len 0 (length stack.de
 unfoldable pub snapshots_over : Description → Lower → List ResolvedOver
 snapshots_over stack to = filter (λ one. is_same_lower one.snapshot.origin to) (all_over stack)
 
--- a target whose line has to be alone in its table
+-- the target's line must be the only one of its table: it is a snapshot or an origin
 abbrev pub is_whole : Target → Bool
 is_whole (targets.Snapshot origin store kind chunk) = true
 is_whole (targets.Origin origin) = true
 is_whole _ = false
 
--- a device in which such a line isn't alone
+-- the device has a snapshot or an origin among several lines, which a load refuses
 abbrev pub has_crowd : DeviceSpec → Bool
 has_crowd device = not (length device.lines == 1) && list_any (λ line. is_whole line.target) device.lines
 
--- the snapshots that lines of origins have copies of: none where a load refuses such lines, so that the copies are no more than devices need
+-- the snapshots that origin lines copy from: none if a load will refuse a crowded table, in which there could be as many copies as the square of the lines
 unfoldable pub copied : Description → List ResolvedOver
 copied stack = if list_any has_crowd stack.devices then [] else all_over stack
 
--- the snapshots of an origin, as its line has copies of them
+-- the snapshots of an origin that its own line keeps a copy of
 unfoldable pub origin_over : Description → Lower → List ResolvedOver
 origin_over stack to = filter (λ one. is_same_lower one.snapshot.origin to) (copied stack)

@@ -1,4 +1,4 @@
--- What a line by ids names below, and where: what its spans by names say, with ids for names.
+-- Spans: the devices and disks that a line with ids refers to, and which of their sectors it uses.
 use Rattle.dm_stack.specs.Base.{ℕ, Bool, List, [], Some, None, length, map, nat_le, flat_map, list_any, Use, Own, Reading, Serving}
 use Rattle.dm_stack.specs.declared.claims.claim.Claim.{Claim}
 use Rattle.dm_stack.specs.declared.id.Lower.{Lower}
@@ -13,15 +13,15 @@ use Rattle.dm_stack.specs.checks.Soundness.{passes}
 use Rattle.dm_stack.specs.claims.Claims.{span_end}
 use Rattle.std.specs.Prelude.{◌/◌, ◌∷◌}
 
--- a column has its share of the line's length
+-- a column's span, with the column's share of the line's length
 abbrev pub column_span : ℕ → ResolvedColumn → Span
 column_span len column = record { to = column.to; offset = column.offset; len = Some len; kind = Own }
 
--- all of a device or a disk
+-- the span of a whole device or disk
 abbrev pub whole_span : Lower → Use → Span
 whole_span to kind = record { to = to; offset = 0; len = None; kind = kind }
 
--- what a line of this length and target names
+-- the spans of a line with this length and target, in order
 abbrev pub target_spans : ℕ → ResolvedTarget → List Span
 target_spans len (found.Linear to offset) = record { to = to; offset = offset; len = Some len; kind = Own } ∷ []
 target_spans len (found.Striped chunk columns) = map (column_span (len / length columns)) columns
@@ -30,20 +30,20 @@ target_spans len found.Error = []
 target_spans len (found.Snapshot snapshot) = whole_span snapshot.store Own ∷ whole_span snapshot.origin Reading ∷ []
 target_spans len (found.Origin origin) = whole_span origin.to Serving ∷ []
 
--- what a line names: of a snapshot first the store
+-- the spans of a line, in order; for a snapshot, first the store, then the origin
 abbrev pub spans : ResolvedLine → List Span
 spans line = target_spans line.len line.target
 
--- an id of no device or disk
+-- the stack has no device or disk with this id
 abbrev pub is_missing : Description → Lower → Bool
 is_missing stack (Device id) = nat_le (length stack.devices) id
 is_missing stack (Disk id) = nat_le (length stack.disks) id
 
--- a line that names what is not there
+-- the line refers to a device or disk that the stack doesn't have
 abbrev pub names_missing : Description → ResolvedLine → Bool
 names_missing stack line = list_any (λ span. is_missing stack span.to) (spans line)
 
--- the devices among what is named, and those that a line names
+-- the device's id, or nothing for a disk
 abbrev pub lower_link : Lower → List ℕ
 lower_link (Device id) = id ∷ []
 lower_link (Disk id) = []
@@ -51,14 +51,14 @@ lower_link (Disk id) = []
 abbrev pub line_links : ResolvedLine → List ℕ
 line_links line = flat_map (λ span. lower_link span.to) (spans line)
 
--- a span that passes the end of what it names, and a line that does
+-- the span passes the end of the device or disk that it refers to
 abbrev pub is_past : Description → Span → Bool
 is_past stack span = passes (lower_len stack span.to) span.offset span.len
 
 abbrev pub passes_end : Description → ResolvedLine → Bool
 passes_end stack line = list_any (is_past stack) (spans line)
 
--- what a device claims by a span of a line, and by a line
+-- the claim that a device makes with one span of a line
 abbrev pub span_claim : Description → (device : ℕ) → Span → Claim
 span_claim stack device span = record { device = device; to = span.to; start = span.offset; end = span_end (lower_len stack span.to) span.offset span.len; kind = span.kind }
 

@@ -1,4 +1,4 @@
--- Names that are indexed.
+-- An index over the names of devices or disks.
 use Rattle.dm_stack.specs.Base.{ℕ, List, Some, String, length, map, replicate, slice_get, string_bytes, to_le_bytes, w64, All, IsDistinct}
 use Rattle.indexmap.specs.IndexSet.{IndexSet}
 use Rattle.dm_stack.specs.Description.{Description, is_same}
@@ -8,35 +8,35 @@ use Rattle.dm_stack.specs.declared.names.name_key.NameKey.{NameKey}
 use Rattle.dm_stack.specs.declared.names.name_key.TheConstants.{KEY_BYTES}
 use Rattle.std.specs.Prelude.{◌≡◌, ◌-◌, ◌<◌, ◌++◌}
 
--- the names of an index, in the order in which they were added
+-- the names in the index, in the order in which they were added
 abbrev pub names_in : {A S : Type 0} → IndexSet (String A) S → List (List ℕ)
 names_in index = map string_bytes index.keys
 
--- no two of them are one
+-- no name is in the index twice
 abbrev pub AreDistinct : {A S : Type 0} → IndexSet (String A) S → Type 0
 AreDistinct index = IsDistinct (λ one other. is_same (string_bytes one) (string_bytes other)) index.keys
 
--- the bytes of a short name, with zeros after them, are those of its words
+-- the key packs a short name: its length, and its bytes as two words, filled up with zeros
 pub record IsKeyOf (name : List ℕ) (key : NameKey) : Type 0 where
   pub len : key.len ≡ length name
   pub bytes : to_le_bytes w64 key.first ++ to_le_bytes w64 key.last ≡ name ++ replicate (16 - key.len) 0
 
--- the number of a place is that of its name
+-- the place's key is that of a name, and its number is that name's index
 pub record IsPlaceOf (names : List (List ℕ)) (place : Place) : Type 0 where
   pub name : List ℕ
   pub key : IsKeyOf name place.key
   pub found : slice_get names place.number ≡ Some name
 
--- each place with a short name has the number of that name
+-- every place with a key of a short name has the number of that name
 abbrev pub ArePlaces : List (List ℕ) → List Place → Type 0
 ArePlaces names places = All (λ place. place.key.len < KEY_BYTES → IsPlaceOf names place) places
 
--- different names, and their places
+-- the names in the index all differ, and each place fits its name
 pub record IsIndex {A S : Type 0} (index : IndexSet (String A) S) (by_keys : List Place) : Type 0 where
   pub distinct : AreDistinct index
   pub places : ArePlaces (names_in index) by_keys
 
--- the names of a description as they are indexed, and ends that can be added up
+-- the indexed names are those of the description, and its lines end within the limit on lengths
 pub record AreIndexed (stack : Description) (devices disks : List (List ℕ)) : Type 0 where
   pub device_names : devices ≡ map (λ device. device.name) stack.devices
   pub disk_names : disks ≡ map (λ disk. disk.name) stack.disks

@@ -1,6 +1,6 @@
-//! How a check fails: with a fault that tells the user where in the source the first bad element stands.
+//! Faults of checks: the kind of fault, and where in the input the first bad element is.
 //!
-//! A check that tests elements one by one says only which are bad; the fault is made here.
+//! A check that tests elements one by one only says which are bad; the fault is built here.
 
 ghost use Rattle.dm_stack.specs.Base.{ℕ, Bool, IfErr, IfOk, None, FnReturns, FnReturnsAt, result_err, Source, Place, Line, IsMemoryFault, faults_by, first_or};
 ghost use Rattle.std.specs.Prelude.{◌≡◌};
@@ -14,14 +14,14 @@ use crate::lines::resolved_line::ResolvedLine;
 use dm_table::{DeviceSpec, Disk, DiskPath, Line, LoadFault, LoadKind, Part, Place};
 use std::alloc::AllocError;
 
-/// The fault of a load that got no memory.
+/// The fault of a load that ran out of memory.
 pub(crate) fn out_of_memory() -> LoadFault
     ensures { IsMemoryFault Source result }
 {
     LoadFault::memory(Part::Source)
 }
 
-/// What was made, or that fault where it was not.
+/// The value, or an out-of-memory fault if it could not be allocated.
 pub(crate) fn or_out_of_memory<T>(made: Result<T, AllocError>) -> Result<T, LoadFault>
     ensures made { IfOk result (λ value. made ≡ Ok value) }
     ensures memory { IfErr result (λ fault. IsMemoryFault Source fault) }
@@ -32,7 +32,7 @@ pub(crate) fn or_out_of_memory<T>(made: Result<T, AllocError>) -> Result<T, Load
     }
 }
 
-/// Fails with the first fault of a check, if it has one.
+/// Fails with the first fault that a check found, if it found one.
 pub(crate) fn refuse(first: Option<LoadFault>) -> Result<(), LoadFault>
     ensures { result_err result ≡ first }
 {
@@ -42,11 +42,11 @@ pub(crate) fn refuse(first: Option<LoadFault>) -> Result<(), LoadFault>
     }
 }
 
-/// What a user finds again by its place in what was read: a device, a line of one, a disk, or a path of one.
+/// A device, line, disk or path, which users find again by its place in the input.
 pub(crate) trait Placed {
     ghost place_of: { Self → Place };
 
-    /// Where it stands.
+    /// Where in the input the element is.
     fn place(&self) -> Place
         ensures { result ≡ place_of self.now };
 }
@@ -83,7 +83,7 @@ impl Placed for DiskPath {
     }
 }
 
-/// Fails at the first element of a list that is bad, with the fault of a kind.
+/// Fails with this kind of fault at the first element of a list that is bad.
 pub(crate) fn check_each<T: Placed, F: Fn(&T) -> bool>(
     kind: LoadKind,
     list: &[T],
@@ -103,8 +103,8 @@ pub(crate) fn check_each<T: Placed, F: Fn(&T) -> bool>(
     Ok(())
 }
 
-/// Fails at the first line of all devices that is bad, by ids and among so many lines of its device, with the
-/// fault of a kind.
+/// Fails with this kind of fault at the first bad line of the stack. `is_bad` is given the line, the line with
+/// ids, and the number of lines in its device.
 pub(crate) fn check_by_ids<F: Fn(&Line, &ResolvedLine, usize) -> bool>(
     kind: LoadKind,
     stack: &Resolved,

@@ -1,7 +1,7 @@
-//! Devices that name one another, by their indexes: which reaches itself, and how deep each is.
+//! The graph of which devices name which, by index: finds cycles and depths.
 //!
-//! Depths come first, by rounds that are linear in the links, since only a device that is too deep
-//! can reach itself; what a device reaches is then searched for few devices or none.
+//! Depths are found first, in rounds that are linear in the links. Only a device that is too deep can be on a
+//! cycle, so what a device reaches is searched for few devices or none.
 
 ghost use Rattle.dm_stack.specs.Prelude.{ℕ, length, map, IfOk, IfSome, IfNone, OnOk, IsTrue, false, All, Contains, IsClosed, Names, Reaches, Visits, depth_over, depths_to, links_in};
 ghost use Rattle.dm_stack.specs.declared.checks.graph.TheConstants.{FOLLOWED_LEVELS};
@@ -9,20 +9,20 @@ ghost use Rattle.std.specs.Prelude.{◌≡◌, ◌≤◌, ◌<◌};
 
 use std::alloc::{AllocError, Global};
 
-/// The greatest depth that a stack of devices may have.
+/// The greatest depth that a device of a stack may have.
 pub const MOST_DEPTH: u32 = 32;
 
-/// Through how many levels a depth is followed: one more than a stack may have, so that a greater depth
-/// is seen.
+/// The number of levels after which a depth is cut off: one more than a stack may have, so that a greater depth
+/// still shows.
 const FOLLOWED_LEVELS: u32 = MOST_DEPTH + 1;
 
-/// The depth of each device, followed through at most `FOLLOWED_LEVELS`.
+/// Finds the depth of each device, cut off at `FOLLOWED_LEVELS`.
 ///
-/// A device that names nothing has depth 1, else its depth is 1 plus the greatest of those that it
-/// names. `FOLLOWED_LEVELS` stands for every greater depth too, and for that of a device in a ring.
+/// A device that names no device has depth 1; any other is one deeper than the deepest that it names. A result of
+/// `FOLLOWED_LEVELS` stands for any depth from there on, and for devices on a cycle.
 ///
-/// Fails only when out of memory. Cost: linear in the links for each level that there is, and for
-/// `FOLLOWED_LEVELS` at most, with memory for two numbers a device.
+/// Fails only when out of memory. Cost: linear in the links for each level of devices, of which at most
+/// `FOLLOWED_LEVELS` are followed, with memory for two numbers per device.
 pub(crate) fn depths(alloc: Global, links: &[Vec<usize>]) -> Result<Vec<u32>, AllocError>
     requires { IsClosed (links_in links.now) }
     ensures { IfOk result (λ depths. depths.items ≡ depths_to (links_in links.now) FOLLOWED_LEVELS) }
@@ -38,7 +38,7 @@ pub(crate) fn depths(alloc: Global, links: &[Vec<usize>]) -> Result<Vec<u32>, Al
     Ok(depths)
 }
 
-/// The depths through one level more than these.
+/// The depths after one more level than these.
 fn next_depths(alloc: Global, links: &[Vec<usize>], depths: &[u32]) -> Result<Vec<u32>, AllocError>
     requires closed { (d e : ℕ) → Names (links_in links.now) d e → e < length depths.now }
     requires bounded { All (λ depth. depth ≤ FOLLOWED_LEVELS) depths.now }
@@ -51,7 +51,7 @@ fn next_depths(alloc: Global, links: &[Vec<usize>], depths: &[u32]) -> Result<Ve
     Ok(next)
 }
 
-/// One more than the greatest of the depths of devices that a device names, up to `FOLLOWED_LEVELS`.
+/// One more than the greatest depth of the named devices, or 1 if there are none.
 fn depth_over(named: &[usize], depths: &[u32]) -> u32
     requires closed { All (λ e. e < length depths.now) named.now }
     requires bounded { All (λ depth. depth ≤ FOLLOWED_LEVELS) depths.now }
@@ -64,10 +64,10 @@ fn depth_over(named: &[usize], depths: &[u32]) -> u32
     greatest + 1
 }
 
-/// Whether a device reaches itself, by what it names and what that names in turn.
+/// Whether a device names itself, directly or through other devices.
 ///
-/// Fails only when out of memory. Cost: linear in the links, with memory for a mark a device and
-/// for the devices that are still to be looked at.
+/// Fails only when out of memory. Cost: linear in the links, with memory for a mark per device, and for the
+/// devices that are still to be visited.
 pub(crate) fn reaches_itself(
     alloc: Global,
     links: &[Vec<usize>],
@@ -87,7 +87,7 @@ pub(crate) fn reaches_itself(
     Ok(visited[device])
 }
 
-/// Visits the named devices; those that are new wait to be looked at.
+/// Marks the named devices as visited; those not marked before are added to `waiting`.
 fn visit(named: &[usize], visited: &mut [bool], waiting: &mut Vec<usize>) -> Result<(), AllocError>
     requires { (e : ℕ) → Contains named.now e → e < length visited.old }
     ensures { OnOk result (Visits named.now visited.old visited.new waiting.old.items waiting.new.items) }
@@ -101,10 +101,11 @@ fn visit(named: &[usize], visited: &mut [bool], waiting: &mut Vec<usize>) -> Res
     Ok(())
 }
 
-/// The first device that reaches itself; `depths` are those that the function `depths` returns.
+/// The first device that names itself, directly or through others; `depths` is the result of the function
+/// `depths`.
 ///
-/// Fails only when out of memory. Cost: linear in the devices where none is too deep; else a search
-/// of all links for each device that is, up to the first that reaches itself.
+/// Fails only when out of memory. Cost: linear in the devices if none is too deep; else one search of all links
+/// for each device that is, up to the first on a cycle.
 pub(crate) fn first_cycle(
     alloc: Global,
     links: &[Vec<usize>],

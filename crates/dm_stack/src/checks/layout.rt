@@ -1,7 +1,7 @@
-//! Devices and disks of length 0, and where a device ends.
+//! The check for devices and disks of length 0, and the end of a device.
 //!
 //! A table starts at sector 0, and each line starts where the one before ends (dmsetup(8)); `lines` checks that.
-//! So a device ends where its last line does; change that here and in `end_of` of the specs.
+//! So a device ends where its last line does; if you change that, change `end_of` of the specs, too.
 
 ghost use Rattle.dm_stack.specs.Prelude.{None, flat_map, result_err, first_or, end_of, HaveSmallEnds, empty, empty_in};
 ghost use Rattle.std.specs.Prelude.{◌≡◌};
@@ -10,8 +10,8 @@ use crate::checks::faults::{check_each, refuse};
 use crate::lines::resolved::Resolved;
 use dm_table::{Line, LoadFault, LoadKind};
 
-/// Fails with the first fault of devices without lines and lines of length 0, or else at the first disk of
-/// length 0.
+/// Fails with the first fault found among devices without lines and lines of length 0, or else at the first disk
+/// of length 0.
 ///
 /// Cost: a walk over the disks.
 pub(crate) fn check_lengths(stack: &Resolved, first: Option<LoadFault>) -> Result<(), LoadFault>
@@ -22,7 +22,7 @@ pub(crate) fn check_lengths(stack: &Resolved, first: Option<LoadFault>) -> Resul
     check_each(LoadKind::Empty, stack.disks(), |disk| disk.len == 0)
 }
 
-/// The end of a device, in sectors: that of its last line.
+/// The sector after the last one of a device, which is the end of its last line.
 pub(crate) fn end_of(lines: &[Line]) -> u64
     requires { HaveSmallEnds lines.now }
     ensures { result ≡ end_of lines.now }

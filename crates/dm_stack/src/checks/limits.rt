@@ -1,7 +1,7 @@
-//! Counts and numbers above their limits.
+//! The checks for counts and numbers above their limits.
 //!
-//! Sums of two numbers within the limits fit 64 bits, so every later check adds freely. The
-//! definitions name these constants, so a limit that changes here changes for them too.
+//! Two numbers within the limits add up without overflow in 64 bits, and later checks rely on that. The
+//! definitions use these same constants.
 
 ghost use Rattle.dm_stack.specs.Prelude.{[], None, nat_lt, option_copied, slice_get, list_any, result_err, Limit, first_or, all_lines, is_far, is_large, line_faults, past, too_large, too_many, described};
 ghost use Rattle.dm_table.specs.Prelude.{spans};
@@ -11,13 +11,13 @@ ghost use Rattle.std.specs.Prelude.{◌≡◌};
 use crate::checks::faults::{Placed, check_each};
 use dm_table::{Column, DeviceSpec, Disk, Line, LoadFault, LoadKind, Target};
 
-/// The most devices of a stack.
+/// The most devices in a stack.
 pub const MOST_DEVICES: usize = 1024;
 
-/// The most disks.
+/// The most disks in a stack.
 pub const MOST_DISKS: usize = 1024;
 
-/// The most lines of all tables together.
+/// The most lines in all tables of a stack together.
 pub const MOST_LINES: usize = 65536;
 
 /// The most sectors of a device or a disk, and the greatest offset: 2^50.
@@ -26,16 +26,16 @@ pub const MOST_LENGTH: u64 = 1 << 50;
 /// The most columns of a striped line.
 pub const MOST_STRIPES: usize = 128;
 
-/// The greatest chunk of a striped line, in sectors: 2^32 - 1.
+/// The largest chunk of a striped line, in sectors: 2^32 - 1.
 pub const MOST_CHUNK: u64 = (1 << 32) - 1;
 
-/// The most sectors of a chunk of a snapshot.
+/// The largest chunk of a snapshot, in sectors.
 pub const MOST_SNAPSHOT_CHUNK: u64 = 1024;
 
-/// The most places for chunks of all stores together.
+/// The most chunks that all stores of a stack together may have room for.
 pub const MOST_PLACES: u64 = 4_194_304;
 
-/// Fails at the first device, or else disk, or else line, above the count that is allowed.
+/// Fails at the first device above the limit, or else the first disk above it, or else the first line above it.
 ///
 /// Cost: a walk over the devices.
 pub(crate) fn check_counts(devices: &[DeviceSpec], disks: &[Disk]) -> Result<(), LoadFault>
@@ -52,7 +52,7 @@ pub(crate) fn check_counts(devices: &[DeviceSpec], disks: &[Disk]) -> Result<(),
     }
 }
 
-/// Fails at the first element of a list that is one too many.
+/// Fails at the first element of a list after the first `most`.
 fn check_count<T: Placed>(most: usize, list: &[T]) -> Result<(), LoadFault>
     ensures { result_err result ≡ first_or (past most T.place_of list.now) None }
 {
@@ -65,7 +65,7 @@ fn check_count<T: Placed>(most: usize, list: &[T]) -> Result<(), LoadFault>
     }
 }
 
-/// The line of an index among the lines of all devices.
+/// The line with this index, counted over the lines of all devices.
 fn line_at(devices: &[DeviceSpec], index: usize) -> Option<&Line>
     ensures { option_copied result ≡ slice_get (all_lines devices.now) index }
 {
@@ -80,7 +80,7 @@ fn line_at(devices: &[DeviceSpec], index: usize) -> Option<&Line>
     None
 }
 
-/// Fails at the first line, or else the first disk, with a number above the limit.
+/// Fails at the first line with a number above the limit, or else at the first disk longer than the limit.
 ///
 /// Cost: a walk over the lines and their columns, and over the disks.
 pub(crate) fn check_numbers(devices: &[DeviceSpec], disks: &[Disk]) -> Result<(), LoadFault>
@@ -90,7 +90,7 @@ pub(crate) fn check_numbers(devices: &[DeviceSpec], disks: &[Disk]) -> Result<()
     check_each(LoadKind::Limit, disks, |disk| MOST_LENGTH < disk.len)
 }
 
-/// Fails at the first line with a number above the limit.
+/// Fails at the first line with a start, length, end or offset above the limit.
 fn check_line_numbers(devices: &[DeviceSpec]) -> Result<(), LoadFault>
     ensures { result_err result ≡ first_or (line_faults Limit is_large (described devices.now [])) None }
 {
@@ -100,7 +100,7 @@ fn check_line_numbers(devices: &[DeviceSpec]) -> Result<(), LoadFault>
     Ok(())
 }
 
-/// Whether a start, a length, an end or an offset is above the limit.
+/// Whether the line's start, length, end or an offset is above the limit.
 fn is_large(line: &Line) -> bool
     ensures { result ≡ is_large line.now }
 {
@@ -110,7 +110,7 @@ fn is_large(line: &Line) -> bool
         || has_far_span(line)
 }
 
-/// Whether a line names an offset above the greatest length.
+/// Whether an offset in the line is above the limit on lengths.
 fn has_far_span(line: &Line) -> bool
     ensures { result ≡ list_any is_far (spans line.now) }
 {
@@ -121,7 +121,7 @@ fn has_far_span(line: &Line) -> bool
     }
 }
 
-/// Whether the offset of a column is above the greatest length.
+/// Whether the offset of a column is above the limit on lengths.
 fn has_far_column(columns: &[Column]) -> bool
     ensures { result ≡ list_any (λ column. nat_lt MOST_LENGTH column.offset) columns.now }
 {

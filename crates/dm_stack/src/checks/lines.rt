@@ -1,8 +1,9 @@
-//! What the checks of lines find, in one walk over the lines of all devices.
+//! The checks of lines, all in one walk over the lines of all devices.
 //!
-//! By their definition checks run one after another, each over all lines. As many as a stack may have
-//! don't fit a cache, so each is looked at once: the first fault of each check is noted, and `load` asks for
-//! them in the order of the checks. A new check of lines is a field here and in `specs/checks/BadLines.antt`.
+//! By definition, each check goes over all lines after the check before it has passed. That many lines don't fit
+//! into a cache, so each line is looked at once: the first fault of each check is noted, and `load` asks for the
+//! faults in the order of the checks. To add a check of lines, add a field here and in
+//! `specs/checks/BadLines.antt`.
 
 ghost use Rattle.dm_stack.specs.Prelude.{All, map, nat_lt, Gap, Overlap, HaveSmallEnds, resolved_line, AreFirst, noted_device, noted_line, or_bad};
 ghost use Rattle.dm_stack.specs.declared.checks.limits.TheConstants.{MOST_LENGTH};
@@ -16,7 +17,7 @@ use crate::lines::resolved::Resolved;
 use crate::lines::resolved_line::ResolvedLine;
 use dm_table::{DeviceSpec, Line, LoadFault, LoadKind};
 
-/// The first fault of each check of lines, so far.
+/// The first fault that each check of lines has found so far.
 #[derive(Clone, Copy, Drop)]
 pub(crate) struct BadLines {
     pub empty: Option<LoadFault>,
@@ -27,9 +28,9 @@ pub(crate) struct BadLines {
     pub snapshot: Option<LoadFault>,
 }
 
-/// The first fault that each check of lines finds.
+/// Finds the first fault of each check of lines.
 ///
-/// Its sums need ends within the limit. Cost: a walk over the lines and their columns.
+/// Ends of lines must be within the limit. Cost: a walk over the lines and their columns.
 pub(crate) fn bad_lines(stack: &Resolved) -> BadLines
     requires { All (λ device. HaveSmallEnds device.lines) stack.now.devices }
     ensures { AreFirst stack.now result }
@@ -49,7 +50,7 @@ pub(crate) fn bad_lines(stack: &Resolved) -> BadLines
     found
 }
 
-/// Notes the faults of a device without lines, and of the lines of any other.
+/// Notes the faults of one device: that it has no lines, or the faults of its lines.
 fn note_device(found: &mut BadLines, stack: &Resolved, device: &DeviceSpec, by_ids: &[ResolvedLine])
     requires by_ids { by_ids.now ≡ map (resolved_line stack.now) device.now.lines }
     requires small { HaveSmallEnds device.now.lines }
@@ -63,7 +64,8 @@ fn note_device(found: &mut BadLines, stack: &Resolved, device: &DeviceSpec, by_i
     }
 }
 
-/// Notes the faults of a line among so many of its device, where the one before ends. Where it ends itself.
+/// Notes the faults of a line, in a device of `count` lines, after a line that ends at `end`; returns the line's
+/// own end.
 fn note_line(
     found: &mut BadLines,
     stack: &Resolved,
@@ -103,7 +105,7 @@ fn note_line(
     by_ids.start + by_ids.len
 }
 
-/// What a line is that starts elsewhere than where the one before ends: after a gap, or over it.
+/// The kind of fault of a line that doesn't start where the line before ends: a gap, or an overlap.
 fn misplaced_kind(end: u64, start: u64) -> LoadKind
     ensures { result ≡ (if nat_lt end start then Gap else Overlap) }
 {
@@ -114,7 +116,7 @@ fn misplaced_kind(end: u64, start: u64) -> LoadKind
     }
 }
 
-/// Notes the fault of an element that is bad, unless its check has one.
+/// Notes a fault at this element, if it is bad and its check has no fault yet.
 fn note<T: Placed>(first: &mut Option<LoadFault>, kind: LoadKind, item: &T, bad: bool)
     ensures { first.new ≡ or_bad first.old kind (T.place_of item.now) bad }
 {

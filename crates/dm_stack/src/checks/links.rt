@@ -1,4 +1,4 @@
-//! Which devices name which, by their ids.
+//! Which devices name which, by id.
 
 ghost use Rattle.dm_stack.specs.Prelude.{IfOk, OnOk, flat_map, links, lower_link, links_in};
 ghost use Rattle.dm_stack.specs.lines.Span.{line_links};
@@ -10,10 +10,10 @@ use crate::lines::resolved_line::{ResolvedLine, ResolvedTarget};
 use crate::lines::span::Spans;
 use std::alloc::{AllocError, Global};
 
-/// What each device names.
+/// For each device, the indexes of the devices that its lines name.
 ///
-/// Fails only when out of memory. Cost: linear in the lines and their columns, with memory for a
-/// number for each time that a device is named.
+/// Fails only when out of memory. Cost: linear in the lines and their columns, with memory for a number each time
+/// that a device is named.
 pub(crate) fn links(alloc: Global, stack: &Resolved) -> Result<Vec<Vec<usize>>, AllocError>
     ensures { IfOk result (λ named. links_in named.items ≡ links stack.now) }
 {
@@ -24,14 +24,14 @@ pub(crate) fn links(alloc: Global, stack: &Resolved) -> Result<Vec<Vec<usize>>, 
     Ok(links)
 }
 
-/// The devices that lines name, as positions in the stack.
+/// The indexes of the devices that these lines name, in order.
 fn lines_links(alloc: Global, lines: &[ResolvedLine]) -> Result<Vec<usize>, AllocError>
     ensures { IfOk result (λ links. links.items ≡ flat_map line_links lines.now) }
 {
     let mut links = Vec::new(alloc);
     for line in lines {
         match line.target {
-            // They name nothing, and a look at that is cheaper than one for spans.
+            // Zero and error lines name nothing, and this test is cheaper than going over their spans.
             ResolvedTarget::Zero | ResolvedTarget::Error => {}
             _ => add_line(&mut links, line)?,
         }
@@ -39,7 +39,7 @@ fn lines_links(alloc: Global, lines: &[ResolvedLine]) -> Result<Vec<usize>, Allo
     Ok(links)
 }
 
-/// Adds the devices that a line names.
+/// Adds the indexes of the devices that a line names.
 fn add_line(links: &mut Vec<usize>, line: &ResolvedLine) -> Result<(), AllocError>
     ensures { OnOk result (links.new.items ≡ links.old.items ++ line_links line.now) }
 {
@@ -49,7 +49,7 @@ fn add_line(links: &mut Vec<usize>, line: &ResolvedLine) -> Result<(), AllocErro
     Ok(())
 }
 
-/// Adds what is named, if it is a device.
+/// Adds the index of the device, if `to` is a device.
 fn add_lower(links: &mut Vec<usize>, to: Lower) -> Result<(), AllocError>
     ensures { OnOk result (links.new.items ≡ links.old.items ++ lower_link to) }
 {

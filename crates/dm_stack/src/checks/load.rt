@@ -1,7 +1,7 @@
-//! The checks of a load in their order, and what a stack keeps of them.
+//! Runs the checks of a load in their order, and collects what a stack keeps from them.
 //!
-//! Each check fails with its first fault, and none runs after one that fails, so later checks may
-//! rely on what earlier ones passed. A new check takes its place here and in `specs/checks/Soundness.antt`.
+//! Each check fails with its first fault, and none runs after one that failed, so later checks can rely on what
+//! earlier ones passed. To add a check, give it a place here and in `specs/checks/Soundness.antt`.
 
 ghost use Rattle.dm_stack.specs.Prelude.{IfErr, IfOk, None, OnOk, map, take, Source, IsMemoryFault, first_fault, described, links, IsClosed, IsFirstRing, depths_to, IsLoaded, stack_depth, HasNoCycle, IsFirstCycle, IsRefusedBy, IsSound, checks_before, store_links, AreFirst};
 ghost use Rattle.dm_stack.specs.declared.checks.graph.TheConstants.{FOLLOWED_LEVELS};
@@ -26,7 +26,7 @@ use crate::names::indexed::Indexed;
 use dm_table::{DeviceSpec, Disk, LoadFault, LoadKind};
 use std::alloc::{AllocError, Global};
 
-/// What a stack keeps beside its description.
+/// What a stack keeps beside the lists that it was loaded from.
 #[derive(Drop)]
 pub(crate) struct Checked {
     pub names: Names,
@@ -35,7 +35,7 @@ pub(crate) struct Checked {
     pub snapshots: Vec<DeviceId>,
 }
 
-/// The depth of each device, also as a part of a store, and the first that reaches itself.
+/// The depth of each device, its depth as a part of stores, and the first device on a cycle.
 #[derive(Drop)]
 struct Graph {
     depths: Vec<u32>,
@@ -45,10 +45,10 @@ struct Graph {
 
 /// Runs the checks of a load, up to the first that finds a fault.
 ///
-/// Those that fail late run in functions that own nothing that a failure would drop.
+/// Checks that can fail late are in functions of their own, which own nothing that a failure would have to drop.
 ///
-/// Cost: near-linear in lines, columns, devices and disks, and a search of what is reached for each
-/// device that is too deep. `Memory` if memory was refused.
+/// Cost: near-linear in lines, columns, devices and disks, and one search of what is reached for each device that
+/// is too deep. Fails with `Memory` if an allocation is refused.
 pub(crate) fn check(
     alloc: Global,
     devices: &[DeviceSpec],
@@ -74,7 +74,7 @@ pub(crate) fn check(
     })
 }
 
-/// The three checks before lines have ids, and the names that they index.
+/// Runs the three checks that need no ids (counts, numbers, names), and returns the indexes of the names.
 fn check_texts(alloc: Global, devices: &[DeviceSpec], disks: &[Disk]) -> Result<Names, LoadFault>
     ensures devices { IfOk result (λ names. names.devices ≡ map (λ device. device.name) devices.now) }
     ensures disks { IfOk result (λ names. names.disks ≡ map (λ disk. disk.name) disks.now) }
@@ -88,7 +88,7 @@ fn check_texts(alloc: Global, devices: &[DeviceSpec], disks: &[Disk]) -> Result<
     Ok(names)
 }
 
-/// The checks by ids, and the depth of the stack.
+/// Runs the checks that go by ids, and returns the depth of the stack.
 fn check_ids(alloc: Global, stack: &Resolved) -> Result<u32, LoadFault>
     requires { first_fault (take 3 (checks_before stack.now)) ≡ None }
     ensures sound { OnOk result (IsSound stack.now) }
@@ -104,7 +104,7 @@ fn check_ids(alloc: Global, stack: &Resolved) -> Result<u32, LoadFault>
     Ok(deepest(&graph.depths))
 }
 
-/// The checks by what devices name, with what was followed of that, and those after them.
+/// Runs the check for cycles and all later checks, with the cycle and the depths that were found.
 fn check_graph(stack: &Resolved, found: &BadLines, graph: &Graph) -> Result<(), LoadFault>
     requires lines { AreFirst stack.now found.now }
     requires before { first_fault (checks_before stack.now) ≡ None }
@@ -123,7 +123,7 @@ fn check_graph(stack: &Resolved, found: &BadLines, graph: &Graph) -> Result<(), 
     check_places(stack)
 }
 
-/// Which device reaches itself first, and how deep each is.
+/// Finds the first device on a cycle, the depth of each device, and its depth as a part of stores.
 fn follow(alloc: Global, stack: &Resolved) -> Result<Graph, AllocError>
     requires { IsClosed (links stack.now) }
     ensures depths { IfOk result (λ graph. graph.depths.items ≡ depths_to (links stack.now) FOLLOWED_LEVELS) }
@@ -141,7 +141,7 @@ fn follow(alloc: Global, stack: &Resolved) -> Result<Graph, AllocError>
     })
 }
 
-/// Fails at the first device that reaches itself.
+/// Fails at the device on a cycle, if there is one.
 fn check_cycles(stack: &Resolved, cycle: Option<usize>) -> Result<(), LoadFault>
     requires { IsFirstRing (links stack.now) cycle }
     ensures passed { OnOk result (HasNoCycle stack.now) }

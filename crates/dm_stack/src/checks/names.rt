@@ -1,7 +1,7 @@
-//! The names of a description: those of its devices, and those of its disks.
+//! The check for names that are used twice, and the indexes of the names of devices and of disks.
 //!
-//! Indexing names is what finds one that stands twice, so that nothing walks them again for it.
-//! The number of a name in its index is the id of the device or disk that has it.
+//! A name that occurs twice is found when it is added to an index, without another walk over the names. A name's
+//! number in its index is the id of its device or disk.
 
 ghost use Rattle.dm_stack.specs.Base.{ℕ, IfErr, IfOk, List, None, OnOk, Some, map, Memory, Source, Answers, IsMemoryFault, first_or, unless};
 ghost use Rattle.dm_stack.specs.Description.{described};
@@ -13,11 +13,11 @@ use crate::names::name_index::NameIndex;
 use dm_table::{DeviceSpec, Disk, DiskPath, LoadFault, LoadKind};
 use std::alloc::Global;
 
-/// What has a name: a device, a disk, or a path of one.
+/// A device, a disk, or a path for a disk: anything in the input with a name.
 pub(crate) trait Named {
     ghost name_of: { Self → List ℕ };
 
-    /// The name that stands in the source.
+    /// The name as it is in the input.
     fn name(&self) -> &str
         ensures { result.now ≡ name_of self.now };
 }
@@ -46,17 +46,17 @@ impl Named for DiskPath {
     }
 }
 
-/// The names of a description, indexed.
+/// The indexes of the names of a stack.
 #[derive(Drop)]
 pub(crate) struct Names {
     pub devices: NameIndex,
     pub disks: NameIndex,
 }
 
-/// The names of a description. It fails at the first device, and else the first disk, whose name an
-/// earlier one has.
+/// Indexes the names of devices and disks. Fails at the first device, or else the first disk, with the name of an
+/// earlier one.
 ///
-/// Cost: near-linear, with memory for a copy of each name. `Memory` if that was refused.
+/// Cost: near-linear, with memory for a copy of each name. Fails with `Memory` if that is refused.
 pub(crate) fn check_names(
     alloc: Global,
     devices: &[DeviceSpec],
@@ -74,7 +74,7 @@ pub(crate) fn check_names(
     Ok(Names { devices, disks })
 }
 
-/// The names of a list, indexed. It fails at the first element whose name an earlier one has.
+/// Indexes the names of a list. Fails at the first element with the name of an earlier one.
 pub(crate) fn index_of<T: Named + Placed>(alloc: Global, list: &[T]) -> Result<NameIndex, LoadFault>
     ensures { Answers Source (λ index. index) result
         (unless (first_or (twice_in T.name_of T.place_of list.now) None) (map T.name_of list.now)) }

@@ -1,4 +1,4 @@
-//! The names in a list of paths: each is that of a disk of the stack, and stands there once.
+//! The checks of a list of image paths: each is for a disk of the stack, and no disk has two.
 
 ghost use Rattle.dm_stack.specs.Prelude.{IfErr, None, OnOk, Some, result_err, Memory, Unknown, Source, IsMemoryFault, faults_by, first_fault, first_or, is_unknown_path, path_faults};
 ghost use Rattle.std.specs.Prelude.{◌≡◌, ◌≢◌};
@@ -9,10 +9,10 @@ use crate::stack::Stack;
 use dm_table::{DiskPath, LoadFault, LoadKind};
 use std::alloc::Global;
 
-/// Fails at the first path of a disk that an earlier one names, and else at the first of a disk that the stack
-/// doesn't have.
+/// Fails at the first path for a disk that an earlier path is for, or else at the first path for a disk that the
+/// stack doesn't have.
 ///
-/// Cost: near-linear, with memory for a copy of each name. `Memory` if that was refused.
+/// Cost: near-linear, with memory for a copy of each name. Fails with `Memory` if that is refused.
 pub fn check_paths(alloc: Global, stack: &Stack, paths: &[DiskPath]) -> Result<(), LoadFault>
     ensures passed { OnOk result (first_fault (path_faults stack.now paths.now) ≡ None) }
     ensures fault { IfErr result (λ fault. fault.kind ≢ Memory
@@ -23,7 +23,7 @@ pub fn check_paths(alloc: Global, stack: &Stack, paths: &[DiskPath]) -> Result<(
     check_known(stack, paths)
 }
 
-/// Fails at the first path of a disk that the stack doesn't have.
+/// Fails at the first path for a disk that the stack doesn't have.
 fn check_known(stack: &Stack, paths: &[DiskPath]) -> Result<(), LoadFault>
     ensures { result_err result
         ≡ first_or (faults_by Unknown (λ path. path.at) (is_unknown_path stack.now) paths.now) None }
@@ -35,7 +35,7 @@ fn check_known(stack: &Stack, paths: &[DiskPath]) -> Result<(), LoadFault>
     )
 }
 
-/// Whether a path is of a disk that the stack doesn't have.
+/// Whether the path is for a disk that the stack doesn't have.
 fn is_unknown_path(stack: &Stack, path: &DiskPath) -> bool
     ensures { result ≡ is_unknown_path stack.now path.now }
 {

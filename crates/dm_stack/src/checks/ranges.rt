@@ -1,8 +1,7 @@
-//! Lines that name what is not there, or pass its end.
+//! The checks for lines that name unknown devices or disks, or pass the end of what they name.
 //!
-//! Making lines by ids looks each name up, and gives one that is not there an id past the last.
-//! A device ends where its last line does, so that the length of what is named takes one look-up
-//! and no walk. The spans of a line say what it names, and how much of it.
+//! When lines get ids, an unknown name gets an id past the last one. A device ends where its last line does, so
+//! the length of a device or a disk takes one look-up. A line's spans are what it names, and how much of it.
 
 ghost use Rattle.dm_stack.specs.Prelude.{is_past, names_missing};
 ghost use Rattle.dm_stack.specs.lines.Span.{passes_end};
@@ -12,7 +11,7 @@ use crate::lines::resolved::Resolved;
 use crate::lines::resolved_line::ResolvedLine;
 use crate::lines::span::{Span, Spans};
 
-/// Whether a line names a device or a disk that is not there.
+/// Whether a line names a device or a disk that the stack doesn't have.
 pub(crate) fn names_missing(stack: &Resolved, line: &ResolvedLine) -> bool
     ensures { result ≡ names_missing stack.now line.now }
 {
@@ -24,7 +23,7 @@ pub(crate) fn names_missing(stack: &Resolved, line: &ResolvedLine) -> bool
     false
 }
 
-/// Whether a line passes the end of something that it names.
+/// Whether a line passes the end of a device or a disk that it names.
 pub(crate) fn passes_end(stack: &Resolved, line: &ResolvedLine) -> bool
     ensures { result ≡ passes_end stack.now line.now }
 {
@@ -36,7 +35,7 @@ pub(crate) fn passes_end(stack: &Resolved, line: &ResolvedLine) -> bool
     false
 }
 
-/// Whether a span passes the end of what it names; one without a length takes it whole.
+/// Whether a span passes the end of what it names; a span without a length is all of that, and can't.
 fn is_past(stack: &Resolved, span: &Span) -> bool
     ensures { result ≡ is_past stack.now span.now }
 {

@@ -1,8 +1,9 @@
-//! Snapshots and origins: whether each fits its table and what it names, and which devices are
+//! The check of snapshots and origins against their tables and what they name, and the list of devices that are
 //! snapshots.
 //!
-//! Each is a whole device: its line stands alone in its table and is as long as the origin that it
-//! names. Mapping relies on it, and shifts where it would divide by a chunk, so that no rule here may be let go.
+//! A snapshot or an origin is a whole device: its line is the only one of its table, and as long as the origin
+//! that it names. Mapping relies on this, and shifts instead of dividing by a chunk size, so no rule here may be
+//! dropped.
 
 ghost use Rattle.dm_stack.specs.Prelude.{[], IfOk, OnOk, described, resolved_target, has_snapshot, snapshots, is_bad_snapshot};
 ghost use Rattle.std.specs.Prelude.{◌≡◌, ◌∷◌, ◌++◌, if◌then◌else◌};
@@ -14,9 +15,8 @@ use crate::lines::resolved_line::ResolvedTarget;
 use dm_table::{DeviceSpec, Line, Target};
 use std::alloc::{AllocError, Global};
 
-/// Whether a line, among so many of its device, is that of a snapshot or an origin that does not stand alone in
-/// its table, or is not as long as the origin that it names; or of a snapshot whose chunk is no power of two from
-/// 1 to 1,024 sectors.
+/// Whether a line in a device of `lines` lines is a bad snapshot or origin: not the only line, or not as long as
+/// the origin that it names; or a snapshot whose chunk size isn't a power of two from 1 to 1,024 sectors.
 pub(crate) fn is_bad_snapshot(
     stack: &Resolved,
     lines: usize,
@@ -35,9 +35,9 @@ pub(crate) fn is_bad_snapshot(
     }
 }
 
-/// The devices that are snapshots, in their order.
+/// The ids of the devices that are snapshots, in rising order.
 ///
-/// Fails only when out of memory. Cost: a walk over the lines, with memory for an id a snapshot.
+/// Fails only when out of memory. Cost: a walk over the lines, with memory for an id per snapshot.
 pub(crate) fn snapshots(alloc: Global, devices: &[DeviceSpec]) -> Result<Vec<DeviceId>, AllocError>
     ensures { IfOk result (λ ids. ids.items ≡ snapshots (described devices.now [])) }
 {
@@ -48,7 +48,7 @@ pub(crate) fn snapshots(alloc: Global, devices: &[DeviceSpec]) -> Result<Vec<Dev
     Ok(ids)
 }
 
-/// Adds the id of a device that has a snapshot's line.
+/// Adds the id of a device if one of its lines is a snapshot.
 fn add_snapshot(ids: &mut Vec<DeviceId>, id: usize, lines: &[Line]) -> Result<(), AllocError>
     ensures { OnOk result
         (ids.new.items ≡ ids.old.items ++ (if has_snapshot lines.now then id ∷ [] else [])) }
@@ -59,7 +59,7 @@ fn add_snapshot(ids: &mut Vec<DeviceId>, id: usize, lines: &[Line]) -> Result<()
     Ok(())
 }
 
-/// Whether one of these lines is that of a snapshot.
+/// Whether one of these lines is a snapshot.
 fn has_snapshot(lines: &[Line]) -> bool
     ensures { result ≡ has_snapshot lines.now }
 {

@@ -1,4 +1,4 @@
-//! The limit on the places for chunks that all stores have together.
+//! The check of how many chunks all stores together have room for.
 
 ghost use Rattle.dm_stack.specs.Prelude.{None, All, result_err, first_or, HaveGoodChunks, crowded, places_of};
 ghost use Rattle.std.specs.Prelude.{◌≡◌};
@@ -9,7 +9,7 @@ use crate::lines::resolved_line::ResolvedTarget;
 use crate::lines::store_layout::place_count;
 use dm_table::{LoadFault, LoadKind};
 
-/// Fails at the first snapshot whose store brings all stores together to more than 4,194,304 places.
+/// Fails at the first snapshot at which the stores so far have room for more than 4,194,304 chunks together.
 ///
 /// Cost: a walk over the lines.
 pub(crate) fn check_places(stack: &Resolved) -> Result<(), LoadFault>
@@ -37,7 +37,7 @@ pub(crate) fn check_places(stack: &Resolved) -> Result<(), LoadFault>
     Ok(())
 }
 
-/// The places of the store of a line, where it has one.
+/// How many chunks the store of a snapshot has room for; 0 for any other target.
 fn places_of(stack: &Resolved, target: &ResolvedTarget) -> u64
     ensures { result ≡ places_of stack.now target.now }
 {

@@ -1,8 +1,8 @@
-//! Which devices the store of a snapshot may be made of.
+//! The check of which devices may hold the exception store of a snapshot.
 //!
-//! Below a store there are only writable devices of linear and striped lines, down to disks. The
-//! rounds that find depths find this for all devices at once: among the links here each device of
-//! another kind names itself, so that it and all above it are too deep, as what reaches a ring is.
+//! Below a store there may be only writable devices of linear and striped lines, down to disks. The rounds that
+//! find depths check this for all devices at once: every device of another kind gets a link to itself here, which
+//! makes it and all devices above it too deep, like devices on a cycle.
 
 ghost use Rattle.dm_stack.specs.Prelude.{IfOk, None, list_all, result_err, first_or, links, IsClosed, depths_to, links_in, store, has_deep_store, is_plain, is_shallow, may_store, store_links, store_links_of};
 ghost use Rattle.dm_stack.specs.declared.checks.graph.TheConstants.{FOLLOWED_LEVELS};
@@ -16,7 +16,7 @@ use crate::lines::resolved_line::ResolvedTarget;
 use dm_table::{DeviceSpec, Line, LoadFault, LoadKind, Target};
 use std::alloc::{AllocError, Global};
 
-/// The depth of each device as a part of a store: above `MOST_DEPTH` where it may not be one.
+/// The depth of each device as a part of stores; above `MOST_DEPTH` if it can't hold a store.
 ///
 /// Fails only when out of memory. Cost: that of finding depths.
 pub(crate) fn store_depths(
@@ -32,7 +32,7 @@ pub(crate) fn store_depths(
     depths(alloc, &named)
 }
 
-/// What each device names, and itself where no store may be made of it.
+/// For each device, the devices that it names, and also itself if it can't hold a store.
 fn store_links(
     alloc: Global,
     stack: &Resolved,
@@ -48,8 +48,7 @@ fn store_links(
     Ok(marked)
 }
 
-/// The devices that a device names, and itself if a store may not be made of it, so that it is on a
-/// ring.
+/// The devices that a device names, and also itself if it can't hold a store, which puts it on a cycle.
 fn store_links_of(may: bool, id: usize, links: &Vec<usize>) -> Result<Vec<usize>, AllocError>
     ensures { IfOk result (λ marked. marked.items ≡ store_links_of may id links.now.items) }
 {
@@ -60,21 +59,21 @@ fn store_links_of(may: bool, id: usize, links: &Vec<usize>) -> Result<Vec<usize>
     Ok(marked)
 }
 
-/// Whether a store may be made of a device, as far as its own lines say.
+/// Whether a device can hold a store, judged by its own lines and read-only flag alone.
 fn may_store(device: &DeviceSpec) -> bool
     ensures { result ≡ may_store device.now.ro device.now.lines }
 {
     !device.ro && are_plain(device.lines.as_slice())
 }
 
-/// Whether a store may be made of all of these lines.
+/// Whether all of these lines may be part of a store.
 fn are_plain(lines: &[Line]) -> bool
     ensures { result ≡ list_all (λ line. is_plain line.target) lines.now }
 {
     lines.iter().all(|line| is_plain(&line.target))
 }
 
-/// Whether a store may be made of a line with this target.
+/// Whether a line with this target may be part of a store.
 fn is_plain(target: &Target) -> bool
     ensures { result ≡ is_plain target.now }
 {
@@ -84,7 +83,7 @@ fn is_plain(target: &Target) -> bool
     }
 }
 
-/// Fails at the first snapshot whose store may not be one, by the depths that `store_depths` returns.
+/// Fails at the first snapshot whose store isn't of a permitted form; `depths` is the result of `store_depths`.
 ///
 /// Cost: a walk over the lines.
 pub(crate) fn check_stores(stack: &Resolved, depths: &[u32]) -> Result<(), LoadFault>
@@ -98,7 +97,7 @@ pub(crate) fn check_stores(stack: &Resolved, depths: &[u32]) -> Result<(), LoadF
     )
 }
 
-/// Whether a target is a snapshot whose store may not be one.
+/// Whether a target is a snapshot whose store isn't of a permitted form.
 fn has_deep_store(depths: &[u32], target: &ResolvedTarget) -> bool
     ensures { result ≡ has_deep_store depths.now target.now }
 {
@@ -108,7 +107,7 @@ fn has_deep_store(depths: &[u32], target: &ResolvedTarget) -> bool
     }
 }
 
-/// Whether the depth that a store was found to have is one that a device may have.
+/// Whether a store is a disk, or a device within the limit of depth by these depths.
 fn is_shallow(depths: &[u32], lower: Lower) -> bool
     ensures { result ≡ is_shallow depths.now lower }
 {

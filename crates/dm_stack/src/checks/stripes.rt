@@ -1,8 +1,8 @@
-//! Whether each striped line divides among its columns.
+//! The check that the length of each striped line divides evenly among its columns.
 //!
-//! The rules are those of the kernel's striped target (admin guide, device-mapper/striped): the
-//! columns share the length alike, each in whole chunks. Mapping divides by the number of columns
-//! and by the chunk, so neither may be 0; change a rule here and in `is_bad_stripe` of the specs.
+//! The rules are those of the kernel's striped target (admin guide, device-mapper/striped): all columns have
+//! equal shares of the length, in whole chunks. Mapping divides by the number of columns and by the chunk, so
+//! neither may be 0; if you change a rule, change `is_bad_stripe` of the specs, too.
 
 ghost use Rattle.dm_stack.specs.Prelude.{Description, has_bad_stripes, is_bad_stripe, resolved_target};
 ghost use Rattle.std.specs.Prelude.{◌≡◌};
@@ -11,8 +11,8 @@ use crate::checks::limits::{MOST_CHUNK, MOST_STRIPES};
 use crate::lines::resolved_line::ResolvedTarget;
 use dm_table::{Line, Target};
 
-/// Whether a line is striped, with no column or more than 128, a chunk of 0 or above 2^32 - 1 sectors, or a
-/// length that the columns, or the chunks of a column, do not divide.
+/// Whether a line is striped and bad: no column or more than 128, a chunk of 0 or above 2^32 - 1 sectors, or a
+/// length that isn't a multiple of columns times chunk.
 pub(crate) fn has_bad_stripes(line: &Line, target: &ResolvedTarget) -> bool
     ensures { (stack : Description) → target.now ≡ resolved_target stack line.now.target
         → result ≡ has_bad_stripes line.now line.now.target }
@@ -25,8 +25,8 @@ pub(crate) fn has_bad_stripes(line: &Line, target: &ResolvedTarget) -> bool
     }
 }
 
-/// Whether a length in sectors does not divide into chunks of this many sectors over this many
-/// columns, or one of the two is out of its limits.
+/// Whether the chunk or the number of columns is out of range, or the length isn't a multiple of columns times
+/// chunk. Length and chunk are in sectors.
 fn is_bad_stripe(len: u64, chunk: u64, columns: usize) -> bool
     ensures { result ≡ is_bad_stripe len chunk columns }
 {

@@ -1,8 +1,8 @@
-//! Claims: the sectors below that the lines of a stack rely on.
+//! Claims: the lower sectors that each line of a stack relies on.
 //!
-//! A line claims its spans, so a target says nothing of claims beside what it names. One that comes
-//! to share what it names in another way is a variant of `Use` (`dm_table`), and arms in `may_share`
-//! here and in `reach`.
+//! A line claims its spans, so a target needs no code for claims beside saying what it names. If a new target
+//! shares what it names in another way, add a variant to `Use` (`dm_table`), and arms in `may_share` here and in
+//! `reach`.
 
 ghost use Rattle.dm_stack.specs.Prelude.{[], ℕ, IfOk, OnOk, false, length, map, not, All, flat_map, list_any, slice_index_or, resolved_device, claims, may_share, is_device, is_named, line_names, is_past, line_claims};
 ghost use Rattle.dm_stack.specs.lines.Span.{passes_end, span_claim};
@@ -15,7 +15,7 @@ use crate::lines::span::{Span, Spans};
 use dm_table::Use;
 use std::alloc::{AllocError, Global};
 
-/// Sectors of a lower device or disk, from a start to before an end, that a device claims.
+/// The range of sectors of a lower device or disk that a device claims; `end` is the sector after the last.
 #[derive(Clone, Copy, Drop)]
 pub(crate) struct Claim {
     pub device: DeviceId,
@@ -25,7 +25,7 @@ pub(crate) struct Claim {
     pub kind: Use,
 }
 
-/// Whether claims of these kinds may have sectors in common.
+/// Whether claims of these two kinds may have sectors in common.
 pub(crate) fn may_share(one: Use, other: Use) -> bool
     ensures { result ≡ may_share one other }
 {
@@ -35,10 +35,11 @@ pub(crate) fn may_share(one: Use, other: Use) -> bool
     }
 }
 
-/// The claims of a stack: by device, line and column, a store before its origin.
+/// Collects all claims of a stack, in the order of devices and lines, and then of columns, or store before
+/// origin.
 ///
-/// No line passes the end of what it names. Fails only when out of memory. Cost: linear in the
-/// lines and their columns.
+/// No line may pass the end of what it names. Fails only when out of memory. Cost: linear in the lines and their
+/// columns.
 pub(crate) fn claims(alloc: Global, stack: &Resolved) -> Result<Vec<Claim>, AllocError>
     requires { All (λ device. All (λ line. passes_end stack.now line ≡ false) device.table)
         (map (resolved_device stack.now) stack.now.devices) }
@@ -68,7 +69,7 @@ fn add_lines(
     Ok(())
 }
 
-/// Adds the claims of a line of a device, one for each of its spans.
+/// Adds the claims of one line of a device, one for each of its spans.
 fn add_line(
     claims: &mut Vec<Claim>,
     stack: &Resolved,
@@ -84,7 +85,7 @@ fn add_line(
     Ok(())
 }
 
-/// Adds what a device claims by a span that ends within what it names.
+/// Adds the claim of a device for one span, which must lie within what it names.
 fn add_claim(
     claims: &mut Vec<Claim>,
     stack: &Resolved,
@@ -109,9 +110,9 @@ fn add_claim(
     Ok(())
 }
 
-/// For each device with an id below a count, whether no claim is on it.
+/// For each device with an id below `devices`, whether no claim is on it.
 ///
-/// Fails only when out of memory. Cost: linear in the claims and the count.
+/// Fails only when out of memory. Cost: linear in the claims and in `devices`.
 pub(crate) fn unclaimed(
     alloc: Global,
     claims: &[Claim],
@@ -129,7 +130,7 @@ pub(crate) fn unclaimed(
     Ok(free)
 }
 
-/// Notes that a claim is on a device, if it is one of these.
+/// Marks a device as claimed, if the claim is on a device with an entry in `free`.
 fn note_claim(free: &mut [bool], to: Lower)
     ensures each { (device : ℕ) → slice_index_or free.new device false
         ≡ (slice_index_or free.old device false && not (is_device device to)) }
@@ -141,7 +142,7 @@ fn note_claim(free: &mut [bool], to: Lower)
     }
 }
 
-/// Whether a line of any device names the device of an id.
+/// Whether any line of the stack names the device with this id.
 ///
 /// Cost: linear in the lines and their columns.
 pub(crate) fn is_named(stack: &Resolved, device: DeviceId) -> bool
@@ -153,14 +154,14 @@ pub(crate) fn is_named(stack: &Resolved, device: DeviceId) -> bool
         .any(|other| lines_name(other.table.lines(), device))
 }
 
-/// Whether one of these lines names a device.
+/// Whether one of these lines names the device.
 fn lines_name(lines: &[ResolvedLine], device: DeviceId) -> bool
     ensures { result ≡ list_any (line_names device) lines.now }
 {
     lines.iter().any(|line| line_names(line, device))
 }
 
-/// Whether a line names a device.
+/// Whether the line names the device.
 fn line_names(line: &ResolvedLine, device: DeviceId) -> bool
     ensures { result ≡ line_names device line.now }
 {
@@ -172,7 +173,7 @@ fn line_names(line: &ResolvedLine, device: DeviceId) -> bool
     false
 }
 
-/// Whether what a line names is this device.
+/// Whether the lower device or disk is this device.
 fn is_device(to: Lower, device: DeviceId) -> bool
     ensures { result ≡ is_device device to }
 {

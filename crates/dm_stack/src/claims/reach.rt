@@ -1,7 +1,7 @@
 //! How far claims reach on each lower device and disk.
 //!
-//! Whoever goes over claims in the order of their starts needs no more of those that came before:
-//! one that starts below their greatest end meets some of them.
+//! If claims are visited in the order of their starts, the greatest ends so far are all that is needed: a claim
+//! that starts below one of them clashes with an earlier claim.
 
 ghost use Rattle.dm_stack.specs.Prelude.{IfOk, length, is_same_lower, IsCounted, no_reach, reach_at, reach_meets, reach_with, Lower};
 ghost use Rattle.std.specs.Prelude.{◌≡◌, if◌then◌else◌};
@@ -11,18 +11,18 @@ use crate::id::Lower;
 use dm_table::Use;
 use std::alloc::{AllocError, Global};
 
-/// The greatest ends of some claims on one device or disk, 0 where there is none.
+/// The greatest ends of some claims on one device or disk, or 0 if there are none.
 #[derive(Clone, Copy, Drop)]
 pub(crate) struct Reach {
-    /// Of those that let no other claim be there.
+    /// The greatest end of claims that share with no other.
     own: u64,
-    /// Of those that don't only read.
+    /// The greatest end of claims that do more than read.
     held: u64,
     all: u64,
 }
 
 impl Reach {
-    /// That of these claims and one more.
+    /// The reach with one more claim.
     fn with(self, claim: &Claim) -> Reach
         ensures { result ≡ reach_with self claim.now }
     {
@@ -41,7 +41,7 @@ impl Reach {
         }
     }
 
-    /// Whether a claim that starts before none of these meets one of them.
+    /// Whether a claim clashes with one of these claims, none of which starts after it.
     pub(crate) fn meets(self, claim: &Claim) -> bool
         ensures { result ≡ reach_meets self claim.now }
     {
@@ -54,7 +54,7 @@ impl Reach {
     }
 }
 
-/// How far claims reach on each device and disk.
+/// The reach of claims on every device and disk.
 #[derive(Drop)]
 pub(crate) struct Reaches {
     devices: Vec<Reach>,
@@ -62,7 +62,7 @@ pub(crate) struct Reaches {
 }
 
 impl Reaches {
-    /// No claims, on devices and disks with ids below these counts.
+    /// The reach of no claims, on devices and disks with ids below these counts.
     pub(crate) fn new(alloc: Global, devices: usize, disks: usize) -> Result<Reaches, AllocError>
         ensures none { IfOk result (λ reaches. (lower : Lower) → reach_at reaches lower ≡ no_reach) }
         ensures devices { IfOk result (λ reaches. length reaches.devices.items ≡ devices) }
@@ -79,7 +79,7 @@ impl Reaches {
         })
     }
 
-    /// How far the claims on a device or a disk reach.
+    /// The reach of the claims on this device or disk.
     pub(crate) fn at(&self, lower: Lower) -> Reach
         requires { IsCounted (length self.now.devices.items) (length self.now.disks.items) lower }
         ensures { result ≡ reach_at self.now lower }
@@ -90,7 +90,7 @@ impl Reaches {
         }
     }
 
-    /// Adds a claim.
+    /// Adds a claim to the reach of its device or disk.
     pub(crate) fn add(&mut self, claim: &Claim)
         requires { IsCounted (length self.old.devices.items) (length self.old.disks.items) claim.now.to }
         ensures reach { (lower : Lower) → reach_at self.new lower ≡ (if is_same_lower claim.now.to lower

@@ -1,8 +1,8 @@
-//! The clash of claims: the first that meets an earlier one.
+//! The first clash of a stack's claims: the first claim that clashes with an earlier one.
 //!
-//! The claims are put in the order of their starts once. Whether those before some index in the
-//! list meet is then a walk in that order, and halving finds the greatest index up to which none
-//! do: the claim there is the first that meets an earlier one.
+//! The claims are sorted by their starts once. Whether any of the first n claims clash is then found by a walk in
+//! that order, and binary search finds the greatest n for which none do: the next claim is the first that clashes
+//! with an earlier one.
 
 ghost use Rattle.dm_stack.specs.Prelude.{IfOk, Some, false, length, slice_get, take, true, All, IsNonDecreasingBy, IsPermutation, IsFirstClash, is_same_lower, Claim, IsCounted, clash_with, is_tidy_to, meets, numbered};
 ghost use Rattle.std.specs.Prelude.{◌≡◌, ◌+◌, ◌<◌};
@@ -13,18 +13,18 @@ use crate::claims::reach::Reaches;
 use crate::id::Lower;
 use std::alloc::{AllocError, Global};
 
-/// A claim, and its number among the claims of its stack.
+/// A claim, with its number in the list of the stack's claims.
 #[derive(Clone, Copy, Drop)]
 pub(crate) struct Numbered {
     number: usize,
     claim: Claim,
 }
 
-/// The clash of claims on devices and disks with ids below these counts, and none exactly where no
-/// two meet.
+/// Finds the clash of these claims, on devices and disks with ids below these counts; None exactly if no two of
+/// them clash.
 ///
-/// Fails only when out of memory. Cost: that of sorting the claims, and a walk over them for each
-/// binary digit of their number, with memory for a copy of each.
+/// Fails only when out of memory. Cost: sorting the claims, and a walk over them for each binary digit of their
+/// number, with memory for a copy of each.
 pub(crate) fn first_clash(
     alloc: Global,
     claims: &[Claim],
@@ -42,7 +42,7 @@ pub(crate) fn first_clash(
     Ok(clash_at(claims, tidy))
 }
 
-/// The claims with their numbers, in the order of their starts.
+/// The claims with their numbers, sorted by their starts.
 fn in_order(alloc: Global, claims: &[Claim]) -> Result<Vec<Numbered>, AllocError>
     ensures same { IfOk result (λ order. IsPermutation (numbered 0 claims.now) order.items) }
     ensures sorted { IfOk result (λ order. IsNonDecreasingBy (λ next. next.claim.start) order.items) }
@@ -56,7 +56,7 @@ fn in_order(alloc: Global, claims: &[Claim]) -> Result<Vec<Numbered>, AllocError
     Ok(order)
 }
 
-/// Whether no two of the claims meet whose numbers are below a count.
+/// Whether no two claims with numbers below `count` clash.
 fn is_tidy_to(
     alloc: Global,
     order: &[Numbered],
@@ -80,7 +80,7 @@ fn is_tidy_to(
     Ok(true)
 }
 
-/// The greatest count such that no two of the claims meet whose numbers are below it, where some do.
+/// The greatest count such that no two claims with numbers below it clash; some of the claims must.
 fn tidy_len(
     alloc: Global,
     order: &[Numbered],
@@ -107,7 +107,7 @@ fn tidy_len(
     Ok(tidy)
 }
 
-/// The clash of the claim at an index with the first that meets it.
+/// The clash of the claim at this index with the first claim that it clashes with.
 fn clash_at(claims: &[Claim], index: usize) -> Option<Clash>
     requires { index < length claims.now }
     ensures { (later : Claim) → slice_get claims.now index ≡ Some later
@@ -127,7 +127,7 @@ fn clash_at(claims: &[Claim], index: usize) -> Option<Clash>
     None
 }
 
-/// Whether two claims meet at any sector.
+/// Whether two claims clash at any sector.
 fn meets(one: &Claim, other: &Claim) -> bool
     ensures { result ≡ meets one.now other.now }
 {
@@ -136,7 +136,7 @@ fn meets(one: &Claim, other: &Claim) -> bool
         && !may_share(one.kind, other.kind)
 }
 
-/// Whether two claims are on the same device or disk.
+/// Whether both are the same device, or both the same disk.
 fn is_same_lower(one: Lower, other: Lower) -> bool
     ensures { result ≡ is_same_lower one other }
 {

@@ -1,9 +1,9 @@
-//! Sizes of a snapshot's chunks: powers of two, so that mapping shifts and masks, and never divides by one.
+//! Chunk sizes of snapshots: powers of two, so mapping shifts and masks instead of dividing by them.
 //!
 //! A small request to a snapshot would take six divisions, which were a tenth of its time.
 //!
-//! This is here for speed alone: RESULTS.md has its gain as *chunk sizes by their exponent*. It rests on sizes that
-//! are powers of two, which a load checks. Change it only if you measure random first writes before and after.
+//! This is here for speed alone: RESULTS.md has its gain as *chunk sizes by their exponent*. It relies on sizes
+//! being powers of two, which a load checks. If you change it, measure random first writes before and after.
 
 ghost use Rattle.dm_stack.specs.Prelude.{is_bad_chunk, fit_chunk};
 ghost use Rattle.dm_stack.specs.declared.checks.limits.TheConstants.{MOST_SNAPSHOT_CHUNK};
@@ -12,10 +12,10 @@ ghost use Rattle.std.specs.Prelude.{◌≡◌, ◌*◌, ◌/◌, ◌%◌, ◌<�
 use crate::checks::limits::MOST_SNAPSHOT_CHUNK;
 use std::marker::Model;
 
-/// The number of sectors of a snapshot's chunks: a power of two from 1 to 1,024. Clauses see it as the number.
+/// The number of sectors in a snapshot's chunks: a power of two from 1 to 1,024. Contracts see it as that number.
 #[derive(Clone, Copy, Debug, Drop)]
 pub struct ChunkSize {
-    /// Two to this power is the number.
+    /// The exponent: a chunk has 2^shift sectors.
     shift: u32,
 }
 
@@ -35,7 +35,7 @@ impl Model for ChunkSize {
 }
 
 impl ChunkSize {
-    /// The size of chunks of this many sectors; 1 where a load refuses chunks of so many.
+    /// The size of a chunk of this many sectors; 1 if a load refuses that number.
     #[tactic(auto, using(crate::proofs::checks::ChunkLemmas::chunk_within, crate::proofs::lines::ChunkSizes::exponent_of))]
     pub(crate) fn new(sectors: u64) -> ChunkSize
         ensures { result ≡ fit_chunk sectors }
@@ -48,7 +48,7 @@ impl ChunkSize {
         }
     }
 
-    /// The number of sectors.
+    /// The number of sectors in a chunk.
     #[tactic(auto, using(crate::proofs::lines::ChunkSizes::size_within))]
     #[inline(always)]
     pub fn sectors(self) -> u64
@@ -59,7 +59,7 @@ impl ChunkSize {
         1u64 << self.shift
     }
 
-    /// The chunk of a sector, from 0.
+    /// The number of the chunk that holds a sector, from 0.
     #[inline(always)]
     pub fn chunk_of(self, sector: u64) -> u64
         ensures { result ≡ sector / self }
@@ -67,7 +67,7 @@ impl ChunkSize {
         sector >> self.shift
     }
 
-    /// How many sectors of its chunk come before a sector.
+    /// How many sectors of its chunk come before this sector.
     #[tactic(auto, using(crate::proofs::lines::ChunkSizes::masked))]
     #[inline(always)]
     pub fn distance_in(self, sector: u64) -> u64
@@ -77,7 +77,7 @@ impl ChunkSize {
         sector & ((1u64 << self.shift) - 1)
     }
 
-    /// How many areas of chunk numbers this many numbers fill: an area is a chunk, with 32 of them a sector.
+    /// How many metadata areas this many chunk numbers fill: an area is one chunk, with 32 numbers to a sector.
     #[tactic(auto, using(crate::proofs::lines::ChunkSizes::areas))]
     #[inline(always)]
     pub(crate) fn full_areas(self, numbers: u64) -> u64
@@ -87,7 +87,7 @@ impl ChunkSize {
     }
 }
 
-/// Whether a chunk is no power of two from 1 to 1,024.
+/// Whether a chunk size isn't a power of two from 1 to 1,024.
 pub(crate) fn is_bad_chunk(chunk: u64) -> bool
     ensures { result ≡ is_bad_chunk chunk }
 {

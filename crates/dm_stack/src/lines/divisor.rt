@@ -1,21 +1,21 @@
-//! Numbers that are divided by often: a division by one is a multiplication by its inverse.
+//! Numbers that are often divided by: the division is a multiplication by a precomputed inverse.
 //!
-//! A range of stripes takes two divisions at each level that it goes through, which were a sixth of
-//! the time of such a request.
+//! A range on stripes takes two divisions at each level that it passes, which were a sixth of the time of such a
+//! request.
 //!
-//! This is here for speed alone; RESULTS.md has such requests as those *through 8 levels of stripes and lines*. It
-//! rests on an inverse that is at most one too small, so the quotient is, too, and is put right once. Change it
-//! only if you measure these requests before and after.
+//! This is here for speed alone; RESULTS.md has such requests as those *through 8 levels of stripes and lines*.
+//! It relies on the inverse being at most one too small, so that the quotient is, too, and is corrected once. If
+//! you change it, measure these requests before and after.
 
 ghost use Rattle.std.specs.Prelude.{◌≡◌, ◌+◌, ◌*◌, ◌^◌, ◌/◌, ◌%◌, ◌<◌, ◌≤◌};
 
 use std::marker::Model;
 
-/// A number to divide by. Clauses see it as the number.
+/// A number to divide by. Contracts see it as that number.
 #[derive(Debug, Drop)]
 pub struct Divisor {
     value: u64,
-    /// 2^64 over the value, rounded down, or one less.
+    /// 2^64 divided by the value and rounded down, or one less.
     inverse: u64,
 }
 
@@ -32,7 +32,7 @@ impl Model for Divisor {
 }
 
 impl Divisor {
-    /// Any number; only one that is not 0 can divide.
+    /// Makes a divisor of any number; dividing requires one that isn't 0.
     pub(crate) fn new(value: u64) -> Divisor
         ensures { result ≡ value }
     {
@@ -53,7 +53,7 @@ impl Divisor {
         self.value
     }
 
-    /// The quotient and the remainder of a number.
+    /// The quotient and the remainder of `number` divided by this.
     #[tactic(auto, using(crate::proofs::lines::Inverses::divided))]
     #[inline(always)]
     pub(crate) fn divide(&self, number: u64) -> (u64, u64)
@@ -64,7 +64,7 @@ impl Divisor {
         self.parts(number)
     }
 
-    /// A quotient and what is left of a number, less than the divisor.
+    /// A quotient and a remainder of `number`, the remainder being less than the divisor.
     #[inline(always)]
     fn parts(&self, number: u64) -> (u64, u64)
         requires { 0 < self.now }
@@ -79,7 +79,7 @@ impl Divisor {
         (quotient + 1, rest - self.value)
     }
 
-    /// The quotient of a number, or one less.
+    /// The quotient of `number`, or one less.
     #[tactic(auto, using(crate::proofs::lines::Inverses::near))]
     #[inline(always)]
     fn quotient_or_less(&self, number: u64) -> u64
@@ -91,7 +91,7 @@ impl Divisor {
     }
 }
 
-/// The upper half of a product.
+/// The upper 64 bits of the 128-bit product.
 #[inline(always)]
 fn high_part(a: u64, b: u64) -> u64
     ensures { result ≡ a * b / 2 ^ 64 }

@@ -1,8 +1,8 @@
-//! Legs: where the first sectors of a line lie, and how many go on like that.
+//! Legs: runs of a line's sectors with one thing below them, such as consecutive sectors, zeros or errors.
 //!
-//! What a target without a state does with its sectors is said here, and of stripes, which alone have
-//! more than one leg, in `legs`: a walk goes down leg by leg, and goes by what lies beneath a leg, not by
-//! the target. A new target is an arm of `leg`.
+//! This module decides what a target without state does with its sectors; only stripes, in `legs`, have more than
+//! one leg. A walk goes down leg by leg, and looks at what lies below a leg, not at the target. To add a target,
+//! add an arm to `leg`.
 
 ghost use Rattle.dm_stack.specs.Prelude.{ℕ, IsTargetSound, Description, AreInside, HasSectors, IsLeg, LiesOnDisk};
 ghost use Rattle.std.specs.Prelude.{◌≡◌, ◌+◌, ◌≤◌};
@@ -10,22 +10,22 @@ ghost use Rattle.std.specs.Prelude.{◌≡◌, ◌+◌, ◌≤◌};
 use crate::id::{DiskId, Lower};
 use crate::lines::resolved_line::{ResolvedOrigin, ResolvedSnapshot, ResolvedTarget};
 
-/// What lies beneath the sectors of a leg.
+/// What lies below the sectors of a leg.
 #[derive(Clone, Copy, Drop)]
 pub enum Beneath<'l> {
     /// The sectors of a device or a disk, from this one on.
     Lies { to: Lower, sector: u64 },
-    /// Nothing: reads give zeros, writes are thrown away.
+    /// Nothing: reads return zeros, writes are discarded.
     Zeros,
     /// Nothing: every request fails.
     Errors,
-    /// What the state of this snapshot says.
+    /// A snapshot, whose state says where each of its sectors lies.
     Snapshot(&'l ResolvedSnapshot),
-    /// The sectors of what this origin names, whose snapshots are served before a write.
+    /// The sectors of what this origin names; before a write, the origin's snapshots take their chunks.
     Origin(&'l ResolvedOrigin),
 }
 
-/// The first sectors of a part of a line: `len` of them, with one thing beneath.
+/// Consecutive sectors of a line, `len` of them, with one thing below all of them.
 #[derive(Clone, Copy, Drop)]
 pub struct Leg<'l> {
     pub below: Beneath<'l>,
@@ -33,7 +33,7 @@ pub struct Leg<'l> {
 }
 
 impl<'l> Leg<'l> {
-    /// The disk that it lies on, and its first sector there.
+    /// The disk that the leg lies on, and its first sector there.
     #[inline(always)]
     pub fn on_disk(&self) -> (DiskId, u64)
         requires { LiesOnDisk self.now.below }
@@ -51,11 +51,10 @@ impl<'l> Leg<'l> {
 }
 
 impl ResolvedTarget {
-    /// Where the sectors of a line of this target lie, from a distance from its start on, and how many
-    /// of at most `most` go on like that.
-    ///
-    /// A leg ends where a chunk of stripes does; any other target has one leg for all the sectors. Where
-    /// those of a snapshot lie, and what a write to an origin does first, is for the state to say. No memory
+    /// The leg at a distance into a line with this target: its length, at most `most`, and what lies below it.
+    /// A leg ends at the end of a stripe's chunk; for any other target, one leg covers all the sectors. Where the
+    /// sectors of a snapshot lie, and what a write to an origin does first, depends on the state. No memory is
+    /// allocated.
     /// is taken.
     #[inline(always)]
     pub fn leg(&self, distance: u64, most: u64) -> Leg<'_>

@@ -1,12 +1,11 @@
-//! Rows of legs: a part of a striped line, one leg after the other.
+//! An iterator over the legs of a part of a striped line.
 //!
-//! Each leg is what is left of a chunk, or of the part where that ends first, and its position follows from
-//! that of the one before without a division. What the target says is read once, so a loop over legs keeps
-//! it in registers.
+//! A leg is the remainder of a chunk, or ends earlier with the part. Its position follows from that of the leg
+//! before without a division, and the target is read only once, so a loop over legs keeps it in registers.
 //!
-//! This is here for speed alone, as `ResolvedTarget::leg` finds each leg, too: RESULTS.md has its gain as *rows of
-//! legs* and *legs on disks in one go*. It rests on `next_stripe_chunk`, which goes on from a position as `position_at`
-//! finds the next one. Change it only if you measure large requests over 16 columns before and after.
+//! This is here for speed alone, since `ResolvedTarget::leg` finds each leg, too: RESULTS.md has its gain as
+//! *rows of legs* and *legs on disks in one go*. It relies on `next_stripe_chunk` advancing a position to the one
+//! that `position_at` would find. If you change it, measure large requests over 16 columns before and after.
 
 ghost use Rattle.dm_stack.specs.Prelude.{true, IfNone, IfSome, is_striped, after_leg, has_disk_columns, HasSectors, IsLeg};
 ghost use Rattle.std.specs.Prelude.{◌≡◌};
@@ -17,8 +16,8 @@ use crate::lines::resolved_line::ResolvedTarget;
 use crate::lines::stripe_position::{StripePosition, next_stripe_chunk, position_at};
 use std::marker::Model;
 
-/// The legs that are left of a part of a striped line. A clause sees the line's target, the distance of
-/// the next sector from the line's start, and how many sectors are left.
+/// Returns the legs of a part of a striped line, in order. Contracts see the line's target, the distance of the
+/// next sector into the line, and how many sectors are left.
 #[derive(Drop)]
 pub struct Legs<'l> {
     chunk_size: u64,
@@ -45,8 +44,8 @@ impl<'l> Model for Legs<'l> {
 }
 
 impl ResolvedTarget {
-    /// The legs of sectors of a striped line of this target, from a distance from its start on. No
-    /// memory is taken.
+    /// The legs of `len` sectors of a striped line with this target, from a distance into the line on. No memory
+    /// is allocated.
     #[inline(always)]
     pub fn legs(&self, distance: u64, len: u64) -> Legs<'_>
         requires striped { is_striped self.now ≡ true }
@@ -65,7 +64,7 @@ impl ResolvedTarget {
         }
     }
 
-    /// Whether it is striped, with all its columns on disks.
+    /// Whether the target is striped, with all its columns on disks.
     #[inline(always)]
     pub fn has_disk_columns(&self) -> bool
         ensures { result ≡ has_disk_columns self.now }
@@ -78,7 +77,7 @@ impl ResolvedTarget {
 }
 
 impl<'l> Legs<'l> {
-    /// The next leg; none where no sector is left.
+    /// The next leg, or None if no sector is left.
     #[inline(always)]
     pub fn next_leg(&mut self) -> Option<Leg<'l>>
         ensures none { IfNone result (self.old.left ≡ 0) }

@@ -1,16 +1,16 @@
-//! The line of a sector, found by halving over the starts of a device's lines.
+//! Finding the line of a sector by binary search over the starts of a device's lines.
 //!
-//! Lines are found nowhere else, and each comparison of a start with the sector is one call of `starts_by`,
-//! which counts it. A search goes over the lines of the sector's bucket (`resolved_table`), and the first of them
-//! is never compared, since the sector is at its start or after it. Of more than three lines, the one that was
-//! found last is remembered, with the sector at which it ends. A range that goes on there, as over many lines,
-//! is in the next line. Whether it does is asked of that sector alone, once a search: no line is looked at for
-//! it, and it isn't counted.
+//! Lines are found nowhere else, and each comparison of a start with the sector is a call of `starts_by`, which
+//! counts it. A search covers the lines of the sector's bucket (`resolved_table`), of which the first is never
+//! compared, since it starts at the sector or before. In a device of more than three lines, the line found last
+//! is remembered, with its end. If the next sector looked for is that end, as in a range over many lines, it is
+//! in the next line. That is tested once per search, on the sector alone, without looking at a line or counting a
+//! comparison.
 //!
-//! The search among few lines without a jump, and the last line, are here for speed alone: `search` finds any line.
-//! RESULTS.md has the requests that gain as those *through 8 levels of stripes and lines*. The last line rests on
-//! its end, which lies past every device where there is none. Change these only if you measure such requests, and
-//! random ones on 65,536 lines, before and after.
+//! The branch-free search among few lines, and remembering the last line, are here for speed alone: `search`
+//! finds any line. RESULTS.md has the requests that gain as those *through 8 levels of stripes and lines*. The
+//! last line relies on its end, which is past every device if there is none. If you change these, measure such
+//! requests, and random ones on 65,536 lines, before and after.
 
 ghost use Rattle.dm_stack.specs.Prelude.{length, nat_le, EndsAt, Finds, EndsAreSmall, StartsAfter, StartsBy};
 ghost use Rattle.std.specs.Prelude.{◌≡◌, ◌⊎◌, ◌<◌, ◌≤◌, ◌+◌, ◌^◌};
@@ -19,7 +19,7 @@ use crate::id::DeviceId;
 use crate::lines::resolved_line::ResolvedLine;
 use crate::lines::resolved_table::ResolvedTable;
 
-/// The line that was found last: its device, its index there, and the sector after its last one.
+/// The line that was found last: its device, its index there, and the sector after its end.
 #[derive(Clone, Copy)]
 pub(crate) struct LastLine {
     device: DeviceId,
@@ -28,7 +28,7 @@ pub(crate) struct LastLine {
 }
 
 impl LastLine {
-    /// That of no search yet: its end lies past every device, so that no sector comes right after it.
+    /// The value before any search: its end is past every device, so that no sector matches it.
     pub(crate) fn none() -> LastLine
         ensures { result.end + 1 ≡ 2 ^ 64 }
     {
@@ -40,10 +40,10 @@ impl LastLine {
     }
 }
 
-/// The index of a line of this device that starts at the sector or before it, where the next one
-/// starts after it, and how many starts were compared with the sector.
+/// Finds the last line of a device that starts at the sector or before. Returns its index, and how many starts
+/// were compared with the sector.
 ///
-/// The line becomes the last one, unless the device has only up to three.
+/// Records the line as the last one, unless the device has three lines or fewer.
 pub(crate) fn find(
     table: &ResolvedTable,
     device: DeviceId,
@@ -66,8 +66,8 @@ pub(crate) fn find(
     }
 }
 
-/// Finds the line of a sector among up to three lines. No jump asks where the sector lies, since among few lines
-/// that is rarely foreseen.
+/// Finds the line of a sector among at most three lines. It has no branch on where the sector is, because with
+/// few lines such a branch is hard to predict.
 #[inline(always)]
 fn find_of_few(lines: &[ResolvedLine], sector: u64) -> (usize, u64)
     requires first { StartsBy lines.now 0 sector }
@@ -90,7 +90,7 @@ fn find_of_few(lines: &[ResolvedLine], sector: u64) -> (usize, u64)
     (0, comparisons)
 }
 
-/// Whether a line with this start starts at a sector or before it: one more comparison.
+/// Whether a line with this start starts at the sector or before. Counts one comparison.
 #[inline(always)]
 fn starts_by(start: u64, sector: u64, comparisons: &mut u64) -> bool
     requires { comparisons.old + 1 < 2 ^ 64 }
@@ -101,7 +101,7 @@ fn starts_by(start: u64, sector: u64, comparisons: &mut u64) -> bool
     start <= sector
 }
 
-/// Finds the line of a sector among many lines, out of the way of devices that have few.
+/// Finds the line of a sector among many lines. Not inlined, so as not to slow down devices with few.
 #[inline(never)]
 fn find_among(
     table: &ResolvedTable,
@@ -128,7 +128,7 @@ fn find_among(
     (index, comparisons)
 }
 
-/// The line after the last one, where the sector comes right after that; else one that is searched for.
+/// The line after the last one, if the sector comes right after that; else the line that a search finds.
 fn after_last(table: &ResolvedTable, device: DeviceId, last: &LastLine, sector: u64) -> (usize, u64)
     requires first { StartsBy table.now 0 sector }
     requires follows { last.now.device ≡ device → last.now.end ≡ sector
@@ -136,7 +136,7 @@ fn after_last(table: &ResolvedTable, device: DeviceId, last: &LastLine, sector: 
     ensures { Finds table.now sector result }
 {
     if last.end == sector && last.device == device {
-        // That line is in the list, so adding 1 to its index can't overflow.
+        // The last line is in the table, so adding 1 to its index can't overflow.
         let lines = table.lines();
         prove!(last.index < lines.len());
         return (last.index + 1, 0);
@@ -144,7 +144,7 @@ fn after_last(table: &ResolvedTable, device: DeviceId, last: &LastLine, sector: 
     search(table.lines(), table.range_of(sector), sector)
 }
 
-/// The line of a sector, which is one of a range of lines: the index of the first, and how many they are.
+/// Finds the line of a sector within a range of lines, given as the index of the first and their number.
 fn search(lines: &[ResolvedLine], range: (usize, usize), sector: u64) -> (usize, u64)
     requires some { 0 < range.1 }
     requires within { range.0 + range.1 ≤ length lines.now }

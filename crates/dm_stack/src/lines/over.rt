@@ -1,7 +1,7 @@
-//! The snapshots of an origin, which its line has.
+//! The snapshots of each origin, which are stored with the origin's line.
 //!
-//! All snapshots of a stack are collected once a load. Each line of an origin has a copy of its own, so that a write
-//! to one neither goes over the devices nor searches their lines; the line of a snapshot has what was collected of it.
+//! All snapshots of a stack are collected once per load. Each origin line has its own copy of the origin's
+//! snapshots, so that a write needs no search for them; a snapshot's line reuses the entry collected for it.
 
 ghost use Rattle.dm_stack.specs.Prelude.{IfOk, IfSome, OnOk, filter, Contains, flat_map, list_any, is_same_lower, all_over, copied, has_crowd, is_whole, over_of, resolved_snapshot};
 ghost use Rattle.std.specs.Prelude.{◌≡◌, ◌++◌};
@@ -26,8 +26,8 @@ fn all_over(alloc: Global, stack: &Indexed) -> Result<Vec<ResolvedOver>, AllocEr
     Ok(over)
 }
 
-/// The snapshots that lines of origins have copies of: none where a line of either kind isn't alone in its table, as a
-/// load refuses it. Else copies could be as many as the square of the lines.
+/// The snapshots for origin lines to copy; none if a snapshot or an origin isn't the only line of its table,
+/// which a load refuses. Otherwise there could be as many copies as the square of the number of lines.
 ///
 /// Fails only when out of memory. Cost: two walks over the lines, with memory for each snapshot.
 pub(crate) fn copied(alloc: Global, stack: &Indexed) -> Result<Vec<ResolvedOver>, AllocError>
@@ -40,14 +40,14 @@ pub(crate) fn copied(alloc: Global, stack: &Indexed) -> Result<Vec<ResolvedOver>
     Ok(over)
 }
 
-/// Whether that is so in one of these devices.
+/// Whether one of these devices has a snapshot or an origin among several lines.
 fn has_crowds(devices: &[DeviceSpec]) -> bool
     ensures { result ≡ list_any has_crowd devices.now }
 {
     devices.iter().any(has_crowd)
 }
 
-/// Whether a line that has to be alone in its table isn't.
+/// Whether a device has a snapshot or an origin among several lines.
 fn has_crowd(device: &DeviceSpec) -> bool
     ensures { result ≡ has_crowd device.now }
 {
@@ -55,14 +55,14 @@ fn has_crowd(device: &DeviceSpec) -> bool
     lines.len() != 1 && has_whole(lines)
 }
 
-/// Whether one of these lines has to be alone in its table.
+/// Whether one of these lines is a snapshot or an origin, which must be the only line of its table.
 fn has_whole(lines: &[Line]) -> bool
     ensures { result ≡ list_any (λ line. is_whole line.target) lines.now }
 {
     lines.iter().any(|line| is_whole(&line.target))
 }
 
-/// Whether a line with this target has to be alone in its table.
+/// Whether the target is a snapshot or an origin, whose line must be the only one of its table.
 fn is_whole(target: &Target) -> bool
     ensures { result ≡ is_whole target.now }
 {
@@ -94,7 +94,7 @@ fn add_lines(
     Ok(())
 }
 
-/// What the line of a snapshot says, with ids for names.
+/// The snapshot that a line describes, with ids in place of names.
 pub(crate) fn resolved_snapshot(
     stack: &Indexed,
     origin: &DevRef,
@@ -112,10 +112,10 @@ pub(crate) fn resolved_snapshot(
     }
 }
 
-/// The snapshot that a device is, where it is the next one of some in the order of their devices. Then the one after
-/// it is next.
+/// The snapshot that a device is, if it is the next in this list, which is in the order of devices; `next` then
+/// advances.
 ///
-/// This is here for speed alone: where nothing is found, the names of the device's line are looked up.
+/// This is here for speed alone: if it returns None, the names in the device's line are looked up.
 pub(crate) fn snapshot_of_next<'a>(
     over: &'a [ResolvedOver],
     next: &mut usize,
@@ -132,9 +132,9 @@ pub(crate) fn snapshot_of_next<'a>(
     Some(&one.snapshot)
 }
 
-/// Those of some snapshots whose origin is a device or a disk.
+/// Those of all snapshots whose origin is this device or disk.
 ///
-/// Fails only when out of memory. Cost: a walk over them, with memory for each that is one.
+/// Fails only when out of memory. Cost: a walk over all snapshots, with memory for those found.
 pub(crate) fn snapshots_over(
     alloc: Global,
     all: &[ResolvedOver],

@@ -1,8 +1,8 @@
-//! Lines by ids: what each names is looked up while a stack is loaded: once, unless the load is refused later on.
+//! Gives lines ids in place of names. Each name is looked up once, or twice in a load that is refused later.
 //!
-//! They are made right after the check of how lines follow one another, and ask for nothing: a name that is not
-//! there has an id past the last, which `check_references` finds. The checks from there on look no name up. A new
-//! target is an arm of `target` here and of `resolved_target` in the specs.
+//! Lines get ids right after the names are checked. An unknown name isn't refused here: it gets an id past the
+//! last, which `names_missing` finds. No later check looks a name up. To add a target, add an arm to `target`
+//! here and to `resolved_target` in the specs.
 
 ghost use Rattle.dm_stack.specs.Prelude.{IfOk, IfSome, map, All, resolved_columns, resolved_line, resolved_target, resolved_device, IsSnapshotOf, copied};
 ghost use Rattle.std.specs.Prelude.{◌≡◌};
@@ -20,10 +20,10 @@ use crate::names::indexed::Indexed;
 use dm_table::{Column, Line, Target};
 use std::alloc::{AllocError, Global};
 
-/// The devices by ids, in their order.
+/// Makes the devices with ids in place of names, in order.
 ///
-/// Fails only when out of memory. Cost: linear in the lines and their columns, and in the snapshots
-/// for each line of an origin.
+/// Fails only when out of memory. Cost: linear in the lines and their columns, and in the snapshots for each line
+/// of an origin.
 pub(crate) fn resolved_devices(
     alloc: Global,
     stack: &Indexed,
@@ -46,7 +46,8 @@ pub(crate) fn resolved_devices(
     Ok(found)
 }
 
-/// The lines of a device by ids, where these are all snapshots of the stack, and that is the device's own.
+/// Makes the lines of a device with ids. `over` is all snapshots for origins to copy, `own` the device's own
+/// snapshot.
 fn table(
     alloc: Global,
     stack: &Indexed,
@@ -71,7 +72,7 @@ fn table(
     ResolvedTable::from_vec(alloc, by_ids)
 }
 
-/// A target by ids. That of a snapshot is the device's own, where that was collected.
+/// Makes a target with ids. For a snapshot it is `own`, if that was collected.
 fn target(
     alloc: Global,
     stack: &Indexed,
@@ -111,7 +112,7 @@ fn target(
     }
 }
 
-/// The columns of a striped line by ids.
+/// Makes the columns of a striped line with ids.
 fn columns_by_ids(
     alloc: Global,
     stack: &Indexed,

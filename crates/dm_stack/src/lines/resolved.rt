@@ -1,7 +1,7 @@
-//! Descriptions with their lines by ids, in which no name is looked up: what checks of what lines name,
-//! depths and claims go by.
+//! A stack's description together with its lines with ids, so that the checks of references, depths and claims
+//! look up no name.
 //!
-//! A clause sees the description alone; the invariant says that the lines by ids are its lines.
+//! Contracts see only the description; the invariant says that the lines with ids are its lines.
 
 ghost use Rattle.dm_stack.specs.Prelude.{map, described, lower_len, resolved_device, is_missing};
 ghost use Rattle.std.specs.Prelude.{◌≡◌};
@@ -11,7 +11,7 @@ use crate::lines::resolved_table::ResolvedDevice;
 use dm_table::{DeviceSpec, Disk};
 use std::marker::Model;
 
-/// The devices and the disks of a description, and the devices by ids.
+/// The devices and disks of a description, and the devices with ids.
 #[derive(Drop)]
 pub(crate) struct Resolved<'a> {
     devices: &'a [DeviceSpec],
@@ -34,7 +34,7 @@ impl<'a> Model for Resolved<'a> {
 }
 
 impl<'a> Resolved<'a> {
-    /// Devices and disks with the devices by ids.
+    /// Joins devices and disks with the devices with ids.
     pub(crate) fn new(
         devices: &'a [DeviceSpec],
         disks: &'a [Disk],
@@ -50,28 +50,28 @@ impl<'a> Resolved<'a> {
         }
     }
 
-    /// The devices in their order, by names.
+    /// The devices in order, with names.
     pub(crate) fn devices(&self) -> &'a [DeviceSpec]
         ensures { result.now ≡ self.now.devices }
     {
         self.devices
     }
 
-    /// The devices in their order, by ids.
+    /// The devices in order, with ids in place of names.
     pub(crate) fn by_ids(&self) -> &'a [ResolvedDevice]
         ensures { result.now ≡ map (resolved_device self.now) self.now.devices }
     {
         self.by_ids
     }
 
-    /// The disks in their order.
+    /// The disks in order.
     pub(crate) fn disks(&self) -> &'a [Disk]
         ensures { result.now ≡ self.now.disks }
     {
         self.disks
     }
 
-    /// Whether no device or disk has the id.
+    /// Whether the stack has no device or disk with this id.
     pub(crate) fn is_missing(&self, to: Lower) -> bool
         ensures { result ≡ is_missing self.now to }
     {
@@ -81,7 +81,7 @@ impl<'a> Resolved<'a> {
         }
     }
 
-    /// The length of what is named, in sectors; 0 where it is not there.
+    /// The length of a device or a disk in sectors, or 0 if the stack doesn't have it.
     pub(crate) fn len_of(&self, to: Lower) -> u64
         ensures { result ≡ lower_len self.now to }
     {

@@ -1,6 +1,6 @@
-//! The columns of a striped line, with their number to divide by, and whether they are all on disks.
+//! The columns of a striped line, their number as a divisor, and whether they are all on disks.
 //!
-//! They are boxed, so that a line without columns takes no room for them.
+//! The columns are boxed, to keep lines without columns small.
 
 ghost use Rattle.dm_stack.specs.Prelude.{IfOk, length, are_on_disks};
 ghost use Rattle.std.specs.Prelude.{◌≡◌};
@@ -11,20 +11,20 @@ use dm_table::{Listed, ReservedBox};
 use std::alloc::{AllocError, Global};
 use std::marker::Model;
 
-/// A column of a striped line: what it names, and the first sector there.
+/// A column of a striped line: the device or disk, and the column's first sector there.
 #[derive(Clone, Copy, Debug, Drop)]
 pub struct ResolvedColumn {
     pub to: Lower,
     pub offset: u64,
 }
 
-/// The columns of a striped line in their order. A clause sees them as a list.
+/// The columns of a striped line, in order. Contracts see them as a list.
 #[derive(Debug, Drop)]
 pub struct ResolvedColumns {
     counted: ReservedBox<CountedColumns>,
 }
 
-/// Columns, how many these are, and whether each of them is on a disk.
+/// The columns, their number, and whether all of them are on disks.
 #[derive(Debug, Drop)]
 struct CountedColumns {
     columns: Listed<ResolvedColumn>,
@@ -47,7 +47,7 @@ impl Model for ResolvedColumns {
 }
 
 impl ResolvedColumns {
-    /// The columns as one value. It fails only when out of memory.
+    /// Boxes the columns with their number. Fails only when out of memory.
     pub(crate) fn from_vec(
         alloc: Global,
         columns: Vec<ResolvedColumn>,
@@ -68,7 +68,7 @@ impl ResolvedColumns {
         Ok(ResolvedColumns { counted })
     }
 
-    /// The columns in their order.
+    /// The columns, in order.
     #[inline(always)]
     pub(crate) fn as_slice(&self) -> &[ResolvedColumn]
         ensures { result.now ≡ self.now }
@@ -76,7 +76,7 @@ impl ResolvedColumns {
         self.counted.as_ref().columns.as_slice()
     }
 
-    /// The number of columns.
+    /// The number of columns, as a divisor.
     #[inline(always)]
     pub(crate) fn count(&self) -> &Divisor
         ensures { result.now ≡ length self.now }
@@ -84,7 +84,7 @@ impl ResolvedColumns {
         &self.counted.as_ref().count
     }
 
-    /// Whether each column is on a disk.
+    /// Whether all columns are on disks.
     #[inline(always)]
     pub(crate) fn are_on_disks(&self) -> bool
         ensures { result ≡ are_on_disks self.now }
@@ -93,7 +93,7 @@ impl ResolvedColumns {
     }
 }
 
-/// Whether each of these columns is on a disk.
+/// Whether all of these columns are on disks.
 fn are_on_disks(columns: &[ResolvedColumn]) -> bool
     ensures { result ≡ are_on_disks columns.now }
 {

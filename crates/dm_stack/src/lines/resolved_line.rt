@@ -1,7 +1,7 @@
-//! Lines as a look-up finds them: with ids for names.
+//! Lines of a table as a look-up returns them, with ids in place of names.
 //!
-//! A load looks each name up, so that mapping never compares texts. A new target is a variant here,
-//! arms in `specs/lines/Below.antt`, and one in `resolve`, which makes these lines.
+//! A load looks each name up, so mapping never compares texts. To add a target, add a variant here, arms in
+//! `specs/lines/Below.antt`, and an arm in `resolve`, which makes these lines.
 
 use crate::id::{DeviceId, Lower};
 use crate::lines::chunk_size::ChunkSize;
@@ -9,10 +9,10 @@ use crate::lines::divisor::Divisor;
 use crate::lines::resolved_columns::ResolvedColumns;
 use dm_table::{Listed, StoreKind};
 
-/// The line of a sector.
+/// The line that holds a sector, as a look-up returns it.
 pub type Found<'s> = &'s ResolvedLine;
 
-/// A line of a table: `len` sectors from `start` on.
+/// A line of a table, which covers `len` sectors from `start` on.
 #[derive(Debug, Drop)]
 pub struct ResolvedLine {
     pub start: u64,
@@ -20,34 +20,33 @@ pub struct ResolvedLine {
     pub target: ResolvedTarget,
 }
 
-// A cache line: more would slow down every look-up of a line.
+// A line fits into one cache line; if it were larger, every look-up would be slower.
 const _: () = prove!(std::mem::size_of::<ResolvedLine>() == 64);
 
-/// What becomes of a line's sectors. Offsets and chunks are in sectors of 512 bytes.
+/// What a line does with its sectors. Offsets and chunks are in sectors of 512 bytes.
 #[derive(Debug, Drop)]
 pub enum ResolvedTarget {
-    /// They are those of a lower device or disk, from an offset on.
+    /// Its sectors are those of a lower device or disk, from an offset on.
     Linear {
         to: Lower,
         offset: u64,
     },
-    /// They go in chunks over columns, in turn.
+    /// Its sectors are spread over the columns in chunks, in turn.
     Striped {
         chunk: Divisor,
         columns: ResolvedColumns,
     },
-    /// Reads give zeros, writes are thrown away.
+    /// Reads return zeros, writes are discarded.
     Zero,
     /// Every request fails.
     Error,
-    /// The line of a snapshot, alone in its table.
+    /// A snapshot, the only line of its table.
     Snapshot(ResolvedSnapshot),
-    /// The line of an origin, alone in its table.
+    /// An origin, the only line of its table.
     Origin(ResolvedOrigin),
 }
 
-/// A snapshot: its origin, where the chunks that are written are kept and in which way, and how long a
-/// chunk is.
+/// A snapshot: its origin, the exception store for its chunks, the store's kind, and the chunk size.
 #[derive(Clone, Copy, Debug, Drop)]
 pub struct ResolvedSnapshot {
     pub origin: Lower,
@@ -58,15 +57,15 @@ pub struct ResolvedSnapshot {
 
 const _: () = prove!(std::mem::size_of::<ResolvedSnapshot>() == 40);
 
-/// An origin: what it is the whole of, and the snapshots of that, in the order of their devices. A
-/// write finds them here, with no search.
+/// An origin: the device or disk that it covers, and all snapshots of that, in the order of their devices, so
+/// that a write finds them without a search.
 #[derive(Debug, Drop)]
 pub struct ResolvedOrigin {
     pub to: Lower,
     pub over: Listed<ResolvedOver>,
 }
 
-/// A snapshot of an origin, and its device.
+/// A snapshot of an origin, and the device that it is.
 #[derive(Clone, Copy, Debug, Drop)]
 pub struct ResolvedOver {
     pub device: DeviceId,

@@ -1,15 +1,14 @@
-//! The lines of a device, and where among them the line of a sector is looked for.
+//! The lines of a device, and which of them a search for a sector covers.
 //!
-//! A device's end and its read-only flag stand with its lines, so that a request asks for all three in one
-//! place.
+//! A device's end and its read-only flag are kept with its lines, so that a request finds all three in one place.
 //!
-//! The sectors up to the start of the last line are cut into buckets, each of as many sectors as one or two
-//! lines have on average. The line of each bucket's first sector is kept, so a search goes from that line to
-//! the one of the next bucket's first sector; these are mostly close to each other.
+//! The sectors up to the start of the last line are cut into equal buckets, with one or two lines each on
+//! average. For each bucket, the line of its first sector is stored; a search covers the lines from that one to
+//! the line of the next bucket's first sector, which are usually few.
 //!
-//! Buckets, and what is read ahead, are here for speed alone: RESULTS.md has their gain as *finer buckets, four
-//! lines read ahead*. Buckets rest on `AreFirsts`; without any, all lines are searched. Change them only if you
-//! measure random requests on 65,536 lines, and their load, before and after.
+//! Buckets and reading ahead are here for speed alone: RESULTS.md has their gain as *finer buckets, four lines
+//! read ahead*. Buckets rely on `AreFirsts`; without buckets, all lines are searched. If you change them, measure
+//! random requests on 65,536 lines, and loading those, before and after.
 
 ghost use Rattle.dm_stack.specs.Prelude.{IfOk, length, AreFirsts, IsStartOf, StartsAfter, StartsBy};
 ghost use Rattle.std.specs.Prelude.{◌≡◌, ◌+◌, ◌^◌, ◌<◌, ◌≤◌};
@@ -20,13 +19,13 @@ use dm_table::{Listed, Reserved};
 use std::alloc::{AllocError, Global};
 use std::marker::Model;
 
-/// The lines of a device in their order. A clause sees them as a list.
+/// The lines of a device, in order. Contracts see them as a list.
 #[derive(Drop)]
 pub(crate) struct ResolvedTable {
     lines: Listed<ResolvedLine>,
-    /// The index of the line of each bucket's first sector.
+    /// For each bucket, the index of the line that holds its first sector.
     firsts: Reserved<u16>,
-    /// A bucket has two to this power of sectors.
+    /// The exponent of the bucket size: a bucket has 2^shift sectors.
     shift: u32,
 }
 
@@ -42,7 +41,7 @@ impl Model for ResolvedTable {
     ghost invariant = { λ table. AreFirsts table.lines table.firsts.items table.shift };
 }
 
-/// A device as a look-up finds it: where it ends, whether it is read-only, and its lines.
+/// A device as a look-up needs it: its end, its read-only flag, and its lines.
 #[derive(Drop)]
 pub(crate) struct ResolvedDevice {
     pub end: u64,
@@ -51,9 +50,9 @@ pub(crate) struct ResolvedDevice {
 }
 
 impl ResolvedTable {
-    /// The lines as one value. It fails only when out of memory.
+    /// Makes a table of these lines, with buckets. Fails only when out of memory.
     ///
-    /// Cost: linear in the lines, with memory for 1 to 2 bytes a line.
+    /// Cost: linear in the lines, with memory for 1 to 2 bytes per line.
     pub(crate) fn from_vec(
         alloc: Global,
         lines: Vec<ResolvedLine>,
@@ -68,7 +67,7 @@ impl ResolvedTable {
         })
     }
 
-    /// The lines in their order.
+    /// The lines, in order.
     #[inline(always)]
     pub(crate) fn lines(&self) -> &[ResolvedLine]
         ensures { result.now ≡ self.now }
@@ -76,7 +75,7 @@ impl ResolvedTable {
         self.lines.as_slice()
     }
 
-    /// Among which lines a sector's is: the index of the first of them, and how many they are.
+    /// The lines to search for a sector: the index of the first, and their number.
     #[inline(always)]
     pub(crate) fn range_of(&self, sector: u64) -> (usize, usize)
         requires { StartsBy self.now 0 sector }
@@ -100,12 +99,13 @@ impl ResolvedTable {
         }
     }
 
-    /// Whether the lines are in buckets, and not so few that they are compared one by one.
+    /// Whether the lines are in buckets; if there are few, they are compared one by one instead.
     pub(crate) fn has_buckets(&self) -> bool {
         !self.firsts.as_slice().is_empty()
     }
 
-    /// A number made of the starts of the lines with which a search for a sector begins, if they are in buckets.
+    /// A number computed from the starts of the lines that a search for this sector begins with, if lines are in
+    /// buckets.
     #[inline(always)]
     pub(crate) fn starts_ahead(&self, sector: u64) -> Option<u64> {
         let bucket = sector.wrapping_shr(self.shift) as usize;
@@ -113,7 +113,7 @@ impl ResolvedTable {
         Some(starts_from(self.lines.as_slice(), *first as usize))
     }
 
-    /// The chunk of a sector, where the first line is that of a snapshot.
+    /// The chunk of a sector, if the first line is a snapshot.
     #[inline(always)]
     pub(crate) fn chunk_ahead(&self, sector: u64) -> Option<u64> {
         match &self.lines.as_slice().first()?.target {
@@ -123,8 +123,8 @@ impl ResolvedTable {
     }
 }
 
-/// A number made of the starts of four lines in a row: a search in a bucket mostly does with two, and a request
-/// that is longer than a line goes on to the next.
+/// A number computed from the starts of four consecutive lines: a search in a bucket usually looks at two, and a
+/// request longer than a line goes on to the next.
 #[inline(always)]
 fn starts_from(lines: &[ResolvedLine], first: usize) -> u64 {
     match lines.get(first..) {
@@ -135,8 +135,8 @@ fn starts_from(lines: &[ResolvedLine], first: usize) -> u64 {
     }
 }
 
-/// The index of the line of each bucket's first sector, and the shift of a sector to its bucket. There are
-/// no buckets for up to three lines, which are compared one by one, nor for lines that no load lets through.
+/// The line of each bucket's first sector, and the exponent of the bucket size. There are no buckets for three
+/// lines or fewer, which are compared one by one, or for lines that a load refuses.
 fn firsts_of(alloc: Global, lines: &[ResolvedLine]) -> Result<(Reserved<u16>, u32), AllocError>
     ensures { IfOk result (λ found. AreFirsts lines.now found.0.items found.1) }
 {
@@ -146,7 +146,7 @@ fn firsts_of(alloc: Global, lines: &[ResolvedLine]) -> Result<(Reserved<u16>, u3
     }
     let end = lines[count - 1].start.min(MOST_LENGTH);
     let shift = (end / (count / 2) as u64).checked_ilog2().unwrap_or(0);
-    // After the bucket in which the last line starts comes one in which it goes on.
+    // One more bucket follows the one in which the last line starts, for the sectors after that.
     let buckets = (end >> shift) as usize + 2;
     let mut firsts = Reserved::from_vec(Vec::with_capacity(alloc, buckets)?);
     let mut index = 0;
@@ -162,7 +162,7 @@ fn firsts_of(alloc: Global, lines: &[ResolvedLine]) -> Result<(Reserved<u16>, u3
     Ok((firsts, shift))
 }
 
-/// Where the line of an index starts; beyond every sector where there is none.
+/// The start of the line with this index, or `u64::MAX`, past every sector, if there is none.
 #[inline(always)]
 fn start_of(lines: &[ResolvedLine], index: usize) -> u64
     ensures { IsStartOf lines.now index result }

@@ -1,8 +1,8 @@
-//! What a line names below, and where: its spans, by ids.
+//! Spans: the devices and disks that a line with ids refers to, and which of their sectors it uses.
 //!
-//! Unknown names, ranges, cycles, depths and claims are checked on spans, so these checks know no
-//! target: a new target says what it names here, in `span_at`, and in `target_spans`
-//! (`specs/lines/Span`, and by names `specs/tables/Span` of `dm_table`). No memory is taken.
+//! References, ranges, cycles, depths and claims are all checked on spans, so these checks don't depend on
+//! targets. A new target says what it refers to here, in `span_at`, and in `target_spans` (`specs/lines/Span`,
+//! and for names `specs/tables/Span` of `dm_table`). No memory is allocated.
 
 ghost use Rattle.dm_stack.specs.Prelude.{IfSome, drop, length, map, slice_get, YieldsFirst, item_count, column_span, spans, whole_span};
 ghost use Rattle.std.specs.Prelude.{◌≡◌, ◌+◌, ◌/◌, ◌<◌, ◌^◌};
@@ -12,17 +12,17 @@ use crate::lines::resolved_columns::ResolvedColumn;
 use crate::lines::resolved_line::{ResolvedLine, ResolvedTarget};
 use dm_table::Use;
 
-/// A range of sectors of a lower device or disk, that a line names.
+/// A range of sectors of a lower device or disk that a line refers to.
 #[derive(Drop)]
 pub(crate) struct Span {
     pub to: Lower,
     pub offset: u64,
-    /// How many sectors; all of what is named where it is not said.
+    /// The number of sectors; None for all of the device or disk.
     pub len: Option<u64>,
     pub kind: Use,
 }
 
-/// The spans of a line that are left.
+/// An iterator over the spans of a line that it hasn't returned yet.
 #[derive(Drop)]
 pub(crate) struct Spans<'a> {
     line: &'a ResolvedLine,
@@ -30,7 +30,7 @@ pub(crate) struct Spans<'a> {
 }
 
 impl<'a> Spans<'a> {
-    /// The spans of a line, in their order.
+    /// The spans of a line, in order.
     pub(crate) fn of(line: &'a ResolvedLine) -> Spans<'a>
         ensures line { result.line.now ≡ line.now }
         ensures index { result.index ≡ 0 }
@@ -53,7 +53,7 @@ impl<'a> Iterator for Spans<'a> {
     }
 }
 
-/// The span of an index, where there is one.
+/// The span with this index, if the line has so many.
 fn span_at(line: &ResolvedLine, index: usize) -> Option<Span>
     ensures span { result ≡ slice_get (spans line.now) index }
     ensures within { IfSome result (λ _. index + 1 < 2 ^ 64) }
@@ -79,7 +79,7 @@ fn span_at(line: &ResolvedLine, index: usize) -> Option<Span>
     }
 }
 
-/// All of what is named.
+/// The span of a whole device or disk.
 fn whole_span(to: Lower, kind: Use) -> Span
     ensures { result ≡ whole_span to kind }
 {
@@ -91,7 +91,7 @@ fn whole_span(to: Lower, kind: Use) -> Span
     }
 }
 
-/// The span of a column, which has its share of a line's length.
+/// The span of the column with this index, which has an equal share of the line's length.
 fn column_span(len: u64, columns: &[ResolvedColumn], index: usize) -> Option<Span>
     ensures within { IfSome result (λ _. index + 1 < 2 ^ 64) }
     ensures span { result ≡ slice_get (map (column_span (len / length columns.now)) columns.now) index }

@@ -1,10 +1,10 @@
-//! How a store is laid out, by its kind: where it keeps taken chunks, for how many it has places, and
-//! how much of it is used.
+//! The layout of an exception store by its kind: which of its chunks hold taken chunks, how many there can be,
+//! and how much of the store is used.
 //!
-//! A transient store keeps taken chunks from its first chunk on, and nothing else. Any other store
-//! begins with a header and an area of chunk numbers, and after every 32 * chunk chunks of data comes
-//! another area (the kernel's exception store). Nothing else in this crate or above it tells the kinds
-//! of stores apart to find a place.
+//! A transient store holds taken chunks from its first chunk on, and nothing else. Any other store begins with a
+//! header and a metadata area, and another area follows after every 32 * chunk data chunks (as in the kernel's
+//! exception store). Nothing else in this crate or in those above it distinguishes kinds of stores to find a
+//! place.
 
 ghost use Rattle.dm_stack.specs.Prelude.{ℕ, false, allocated, is_metadata, metadata, place, place_count};
 ghost use Rattle.dm_table.specs.declared.tables.table.StoreKind.{StoreKind};
@@ -13,11 +13,10 @@ ghost use Rattle.std.specs.Prelude.{◌≡◌, ◌↔◌, ◌+◌, ◌*◌, ◌<
 use crate::lines::chunk_size::ChunkSize;
 use dm_table::StoreKind;
 
-/// How many chunks of `chunk` sectors a store of a length in sectors has places for, beside the
-/// header and the areas of chunk numbers that its kind has. A taken chunk has its place exactly if its
-/// number, from 0, is below this.
+/// How many taken chunks of `chunk` sectors a store of this length in sectors has room for, beside the header and
+/// metadata areas of its kind. A taken chunk has a place exactly if its number, from 0, is below this.
 ///
-/// It takes the same time whatever the length.
+/// Takes constant time, whatever the length.
 #[tactic(auto, using(crate::proofs::lines::StoreLayoutLemmas::has_place))]
 pub fn place_count(kind: StoreKind, chunk: ChunkSize, store_len: u64) -> u64
     ensures count { result ≡ place_count kind chunk store_len }
@@ -34,7 +33,7 @@ pub fn place_count(kind: StoreKind, chunk: ChunkSize, store_len: u64) -> u64
     }
 }
 
-/// The chunk of a store, from 0, that has the taken chunk of this number, from 0.
+/// The chunk of the store, from 0, that holds the taken chunk with this number, from 0.
 pub fn place(kind: StoreKind, chunk: ChunkSize, number: u64) -> u64
     requires { place kind chunk number < 2 ^ 63 }
     ensures { result ≡ place kind chunk number }
@@ -45,8 +44,8 @@ pub fn place(kind: StoreKind, chunk: ChunkSize, number: u64) -> u64
     }
 }
 
-/// How many sectors of a store are used where this many chunks are taken: those up to the place of the
-/// next one. Where an area of chunk numbers comes before that place, this can pass the store's length.
+/// The used sectors of a store with this many taken chunks: all before the place of the next one. If a metadata
+/// area comes right before that place, this can be more than the store's length.
 #[tactic(auto, using(crate::proofs::lines::StoreLayoutLemmas::place_within))]
 pub fn allocated(kind: StoreKind, chunk: ChunkSize, taken: u64) -> u64
     requires { allocated kind chunk taken < 2 ^ 63 }
@@ -56,7 +55,7 @@ pub fn allocated(kind: StoreKind, chunk: ChunkSize, taken: u64) -> u64
     place(kind, chunk, taken) * sectors
 }
 
-/// How many of the used sectors are the header and the areas of chunk numbers.
+/// How many of the used sectors are the header and metadata areas.
 #[tactic(auto, using(crate::proofs::lines::StoreLayoutLemmas::used_parts))]
 pub fn metadata(kind: StoreKind, chunk: ChunkSize, taken: u64) -> u64
     requires { allocated kind chunk taken < 2 ^ 63 }
@@ -66,9 +65,8 @@ pub fn metadata(kind: StoreKind, chunk: ChunkSize, taken: u64) -> u64
     (place(kind, chunk, taken) - taken) * sectors
 }
 
-/// Taken chunks of different numbers have different places in their store, in rising order, and
-/// none of them is in the header or in an area of chunk numbers. It does nothing: its contract is
-/// the law.
+/// States that taken chunks with different numbers have different places in their store, in rising order, and
+/// none of them is in the header or a metadata area. The function does nothing; its contract is the law.
 #[tactic(auto, using(crate::proofs::lines::StoreLayoutLemmas::places_apart))]
 pub fn places_are_apart()
     ensures apart { (kind : StoreKind) (chunk first second : ℕ)

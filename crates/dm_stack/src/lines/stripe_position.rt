@@ -1,15 +1,14 @@
-//! Positions in stripes: the column of a sector, and where its chunk lies there.
+//! Positions in a striped line: the column of a sector, and where in the column its chunk is.
 //!
-//! A sector's position is found by divisions, and that of the next chunk follows from it without any,
-//! so a row of chunks costs the divisions of the first one. The rule that assigns chunks to columns
-//! is in this file alone.
+//! A sector's position takes divisions to find, but the position of the next chunk follows from it without any,
+//! so a row of chunks costs only the divisions of the first. Only this file knows which chunk is in which column.
 
 ghost use Rattle.dm_stack.specs.Prelude.{ℕ, IsStripePosition};
 ghost use Rattle.std.specs.Prelude.{◌≡◌, ◌+◌, ◌-◌, ◌<◌, ◌^◌};
 
 use crate::lines::divisor::Divisor;
 
-/// A sector of a striped line: its column, where its chunk starts in that column, and how many
+/// The position of a sector of a striped line: its column, where its chunk starts in that column, and how many
 /// sectors of the chunk come before it.
 #[derive(Clone, Copy, Drop)]
 pub(crate) struct StripePosition {
@@ -19,7 +18,7 @@ pub(crate) struct StripePosition {
 }
 
 impl StripePosition {
-    /// The sector's distance from the start of its column.
+    /// The sector's distance from the start of the line's share of the column.
     #[inline(always)]
     pub(crate) fn in_column(&self) -> u64
         requires { self.now.chunk_start + self.now.past < 2 ^ 64 }
@@ -29,7 +28,7 @@ impl StripePosition {
     }
 }
 
-/// The position of the sector at a distance from the line's start.
+/// The position of the sector at this distance into the striped line.
 pub(crate) fn position_at(chunk_size: &Divisor, count: &Divisor, distance: u64) -> StripePosition
     requires chunk { 0 < chunk_size.now }
     requires count { 0 < count.now }
@@ -44,8 +43,8 @@ pub(crate) fn position_at(chunk_size: &Divisor, count: &Divisor, distance: u64) 
     }
 }
 
-/// The position of the first sector of the next chunk: on the next column, or, after the last column,
-/// on the first one, a chunk further on.
+/// The position of the first sector of the next chunk: in the next column, or, after the last column, in the
+/// first one, a chunk further on.
 pub(crate) fn next_stripe_chunk(
     chunk_size: u64,
     count: usize,

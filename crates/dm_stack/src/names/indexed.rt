@@ -1,6 +1,6 @@
-//! Descriptions whose names are indexed.
+//! A stack's description together with indexes of its names.
 //!
-//! What makes lines by ids looks names up here, and no check does. A clause sees the description alone; the
+//! Names are looked up here when lines get ids; no check looks any up. Contracts see only the description; the
 //! invariant says that the indexes are those of its names.
 
 ghost use Rattle.dm_stack.specs.Prelude.{map, All, described, lower_of, HaveSmallEnds};
@@ -11,8 +11,8 @@ use crate::names::name_index::NameIndex;
 use dm_table::{DevRef, DeviceSpec, Disk};
 use std::marker::Model;
 
-/// The devices and the disks of a description, with indexes of their names. The ends of its
-/// lines are within the limit.
+/// The devices and disks of a description, with indexes of their names. The ends of all lines are within the
+/// limit.
 #[derive(Drop)]
 pub(crate) struct Indexed<'a> {
     devices: &'a [DeviceSpec],
@@ -34,7 +34,7 @@ impl<'a> Model for Indexed<'a> {
 }
 
 impl<'a> Indexed<'a> {
-    /// Devices and disks with the index of their names.
+    /// Joins devices and disks with the indexes of their names.
     pub(crate) fn new(
         devices: &'a [DeviceSpec],
         disks: &'a [Disk],
@@ -54,7 +54,7 @@ impl<'a> Indexed<'a> {
         }
     }
 
-    /// The devices in their order.
+    /// The devices, in order.
     pub(crate) fn devices(&self) -> &'a [DeviceSpec]
         ensures devices { result.now ≡ self.now.devices }
         ensures small { All (λ device. HaveSmallEnds device.lines) result.now }
@@ -62,7 +62,7 @@ impl<'a> Indexed<'a> {
         self.devices
     }
 
-    /// What a line names, by its id; one past the last where it is not there.
+    /// The device or disk with the name in a line, by its id; an id past the last if the name is unknown.
     pub(crate) fn lower_of(&self, to: &DevRef) -> Lower
         ensures { result ≡ lower_of self.now to.now }
     {

@@ -1,15 +1,15 @@
-//! An index of names: which name was added as number 0, 1 and so on.
+//! An index of names, which numbers them 0, 1, 2 and so on in the order in which they are added.
 //!
-//! Looking a name up costs about the same however many there are. The last bytes of a name lead to the number
-//! that it probably has, so that mostly one name is compared and nothing is hashed. Where a name stands in a
-//! text, not even a short one is compared as a text: the keys of names are in places. At which place a name
-//! begins to be looked for follows from its key, and where other names are, it is at one of the next. No proof
-//! rests on a guess or on where a name is; what neither answers, the set of all names does. A clause sees an
-//! index as the list of its names, in the order in which they were added.
+//! A look-up takes about the same time for any number of names. The last bytes of a name give a guess of its
+//! number, so that usually one name is compared and nothing is hashed. For a name at the front of a text, a table
+//! of places is searched, which holds keys of names; a short name is then compared by its key alone. The key
+//! gives the first place to look at; if other names are there, it is in one of the next. No proof relies on a
+//! guess or a place: if neither finds the name, the set of all names does. Contracts see an index as the list of
+//! its names, in the order in which they were added.
 //!
-//! Guesses and places are here for speed alone, as the set finds each name, too: RESULTS.md has their gain as *a
-//! name's number tried before its hash* and *requests read where they stand*. Measure small requests, and loads of
-//! many lines, before and after a change.
+//! Guesses and places are here for speed alone, since the set finds each name, too: RESULTS.md has their gain as
+//! *a name's number tried before its hash* and *requests read where they stand*. If you change them, measure
+//! small requests, and loads of many lines, before and after.
 
 ghost use Rattle.dm_stack.specs.Prelude.{[], IfOk, IfSome, List, ℕ, Some, drop, get_or, length, not, position, take, list_any, code, is_same, ArePlaces, IsKeyOf, IsPlaceOf};
 ghost use Rattle.dm_stack.specs.declared.names.name_key.TheConstants.{KEY_BYTES};
@@ -21,36 +21,36 @@ use indexmap::IndexSet;
 use std::alloc::{AllocError, Global};
 use std::marker::Model;
 
-/// The numbers that are guessed: four for each device or disk that a stack may have.
+/// The number of entries in the table of guesses: four for each device or disk that a stack may have.
 const GUESSES: usize = 4096;
 
-/// How many places in a row may have a name.
+/// How many places, from the first one of a key on, may hold a name with that key.
 const TRIES: usize = 8;
 
-/// The bytes in which the space after a name stands.
+/// How many bytes of a text are searched for the space after a name.
 const LONGEST: usize = 128;
 
 /// The length in the key of an empty place, which no name has.
 const NO_NAME: usize = LONGEST;
 
-/// The most binary digits of four places for each name.
+/// The greatest exponent for the number of first places: 2^13 is eight for each of 1,024 names.
 const MOST_DIGITS: u32 = 13;
 
-/// The key of a name, and its number.
+/// An entry of the table of places: the key of a name, and its number.
 #[derive(Clone, Copy)]
 pub(crate) struct Place {
     pub key: NameKey,
     pub number: usize,
 }
 
-/// Different names, in the order in which they were added.
+/// Different names, numbered in the order in which they were added.
 #[derive(Drop)]
 pub(crate) struct NameIndex {
     names: IndexSet<String>,
-    /// At the guess of a name its number, or that of a later one of the same guess.
+    /// For each guess, the number of a name with that guess, the last one added.
     guesses: Vec<u16>,
     places: Vec<Place>,
-    /// A key's product is shifted by this to its first place.
+    /// How far a key's product is shifted right to get the index of its first place.
     shift: u32,
 }
 
@@ -66,10 +66,10 @@ impl Model for NameIndex {
 }
 
 impl NameIndex {
-    /// An index of no name, with places for so many.
+    /// An empty index, with places for this many names.
     ///
-    /// Fails only when out of memory. Cost: linear in the names, with memory for 4 to 8 places for each and 8
-    /// more, of 32 bytes, and 8 KiB.
+    /// Fails only when out of memory. Cost: linear in the names, with memory for 4 to 8 places of 32 bytes for
+    /// each, 8 more places, and 8 KiB.
     pub(crate) fn new(alloc: Global, names: usize) -> Result<NameIndex, AllocError>
         ensures { IfOk result (λ index. index ≡ []) }
     {
@@ -82,7 +82,7 @@ impl NameIndex {
         })
     }
 
-    /// Adds a name after the others, unless it is there; returns whether it was new.
+    /// Adds a name after the others unless it is in the index already; returns whether it was new.
     ///
     /// Cost: about the same at any number of names, with memory for a copy of the name.
     pub(crate) fn add(&mut self, alloc: Global, name: &str) -> Result<bool, AllocError>
@@ -107,7 +107,7 @@ impl NameIndex {
         }
     }
 
-    /// The number of a name, from 0. No memory is taken.
+    /// The number of a name, counted from 0 in the order of adding. No memory is allocated.
     pub(crate) fn find(&self, name: &str) -> Option<usize>
         ensures { result ≡ position (λ other. is_same other name.now) self.now }
     {
@@ -122,8 +122,8 @@ impl NameIndex {
         self.names.get_index_of(name)
     }
 
-    /// The number of the name that stands at the front of a text, up to a space, and how long the name is.
-    /// `None` says nothing of the text.
+    /// The number and the length of the name at the front of a text, which ends at a space. `None` says nothing
+    /// about the text.
     #[inline(always)]
     pub(crate) fn find_in_text(&self, text: &[u8]) -> Option<(usize, usize)>
         ensures number { IfSome result
@@ -139,7 +139,7 @@ impl NameIndex {
         Some((number, len))
     }
 
-    /// The number and the length of a name of 16 bytes or more at the front of a text, up to a space.
+    /// The number and the length of a name of 16 bytes or more at the front of a text, which ends at a space.
     #[inline(never)]
     fn find_long(&self, text: &[u8]) -> Option<(usize, usize)>
         ensures number { IfSome result
@@ -152,7 +152,7 @@ impl NameIndex {
         Some((number, len))
     }
 
-    /// The number of a name by its place. `None` says nothing of the name.
+    /// The number of a name, if the table of places has it. `None` says nothing about the name.
     fn find_placed(&self, name: &[u8]) -> Option<usize>
         ensures { IfSome result (λ number. position (λ other. is_same other name.now) self.now ≡ Some number) }
     {
@@ -160,7 +160,7 @@ impl NameIndex {
         if name.len() < KEY_BYTES {
             return Some(number);
         }
-        // Other names may have the key of a long one.
+        // Another name may have the same key as a long one, so the names are compared.
         if are_same(self.names.get_index(number)?.as_bytes(), name) {
             Some(number)
         } else {
@@ -168,7 +168,7 @@ impl NameIndex {
         }
     }
 
-    /// The number at a place that has a key.
+    /// The number at the first place with this key, if there is one.
     #[inline(always)]
     fn find_key(&self, key: &NameKey) -> Option<usize>
         ensures { (name : List ℕ) → length name < KEY_BYTES → IsKeyOf name key.now
@@ -184,19 +184,19 @@ impl NameIndex {
     }
 }
 
-/// Guesses of the first name, all of them.
+/// A table of guesses in which every guess is name 0.
 fn no_guesses(alloc: Global) -> Result<Vec<u16>, AllocError> {
     Vec::from_elem(alloc, 0, GUESSES)
 }
 
-/// Keeps the number of a name at its guess, if it is one of few.
+/// Stores the number of a name under its guess, if the number fits into 16 bits.
 fn keep(guesses: &mut Vec<u16>, guess: usize, number: usize) {
     if let (Some(guess), Ok(number)) = (guesses.get_mut(guess), u16::try_from(number)) {
         *guess = number;
     }
 }
 
-/// The guess of a name, by its last eight bytes, or by all of a shorter one.
+/// The guess of a name: a hash of its last eight bytes, or of all bytes of a shorter name.
 #[inline(always)]
 fn guess_of(name: &str) -> usize {
     let bytes = name.as_bytes();
@@ -212,8 +212,7 @@ fn guess_of(name: &str) -> usize {
     (word.wrapping_mul(0x9E37_79B9_7F4A_7C15) >> 52) as usize
 }
 
-/// How many binary digits the number of the first places has, for as many names: there are four to eight for
-/// each, if that isn't too many.
+/// The exponent for the number of first places: 2^digits is four to eight for each name, up to a limit.
 fn place_digits(names: usize) -> u32
     ensures { result ≤ MOST_DIGITS }
 {
@@ -223,7 +222,7 @@ fn place_digits(names: usize) -> u32
     }
 }
 
-/// A place that has no name.
+/// A place without a name.
 fn empty_place() -> Place
     ensures { KEY_BYTES ≤ result.key.len }
 {
@@ -237,7 +236,7 @@ fn empty_place() -> Place
     }
 }
 
-/// Where the places of a key begin.
+/// The index of the first place at which a key may be.
 #[inline(always)]
 fn first_place(key: &NameKey, shift: u32) -> usize {
     let mixed = key
@@ -247,7 +246,7 @@ fn first_place(key: &NameKey, shift: u32) -> usize {
     mixed.wrapping_shr(shift) as usize
 }
 
-/// Puts a place at the first empty one from an index on, unless all are taken.
+/// Stores a place at the first empty one among those of its key; drops it if none is empty.
 fn put(places: &mut Vec<Place>, from: usize, place: Place)
     ensures { (names : List (List ℕ)) → ArePlaces names places.old.items
         → (place.key.len < KEY_BYTES → IsPlaceOf names place) → ArePlaces names places.new.items }
@@ -263,7 +262,7 @@ fn put(places: &mut Vec<Place>, from: usize, place: Place)
     }
 }
 
-/// How many bytes of a text stand before its first space, where a name may be as long.
+/// The number of bytes before the first space of a text, if it is within the length that is searched.
 fn space_ahead(text: &[u8]) -> Option<usize>
     ensures within { IfSome result (λ len. len < length text.now) }
     ensures space { IfSome result (λ len. get_or text.now len 0 ≡ code " ") }

@@ -1,11 +1,11 @@
-//! Names as two words and a length, which are compared at once.
+//! Names packed into two words and a length, so that they are compared at once.
 //!
-//! Of a short name, which ends within sixteen bytes, the words are all of it: the sixteen bytes are read
-//! together, and those from its end on are set to zero. Of a longer one they are a mix of its first sixteen
-//! bytes and its last sixteen, which other names may have too.
+//! The two words of a short name, of at most 15 bytes, hold all of it: sixteen bytes are read together, and those
+//! after the name set to zero. The words of a longer name mix its first sixteen bytes with its last sixteen, and
+//! another name may have the same ones.
 //!
-//! They are here for speed alone: RESULTS.md has the gain as *short names compared at once*. Measure small requests
-//! before and after a change.
+//! Keys are here for speed alone: RESULTS.md has the gain as *short names compared at once*. If you change them,
+//! measure small requests before and after.
 
 ghost use Rattle.dm_stack.specs.Prelude.{IfSome, IsTrue, get_or, length, replicate, take, to_le_bytes, w64, code, IsKeyOf};
 ghost use Rattle.dm_stack.specs.declared.names.name_key.TheConstants.{KEY_BYTES};
@@ -14,10 +14,10 @@ ghost use Rattle.std.specs.Prelude.{◌≡◌, ◌-◌, ◌<◌, ◌≤◌, ◌+
 use dm_table::{as_array, put_bytes};
 use std::simd::prelude::*;
 
-/// How many bytes are read together: one more than a short name has.
+/// How many bytes are read together: one more than a short name can have.
 pub(crate) const KEY_BYTES: usize = 16;
 
-/// A name as two words, and its length.
+/// A name packed into two words, and its length in bytes.
 #[derive(Clone, Copy)]
 pub(crate) struct NameKey {
     pub first: u64,
@@ -26,7 +26,7 @@ pub(crate) struct NameKey {
 }
 
 impl NameKey {
-    /// The key of a name.
+    /// The key of a name of any length.
     pub(crate) fn of(name: &[u8]) -> NameKey
         ensures len { result.len ≡ length name.now }
         ensures key { length name.now < KEY_BYTES → IsKeyOf name.now result }
@@ -40,7 +40,7 @@ impl NameKey {
         NameKey::short(&array, len)
     }
 
-    /// The key of a short name, the first bytes of an array.
+    /// The key of a short name, which is the first `len` bytes of an array.
     #[inline(always)]
     pub(crate) fn short(array: &[u8; KEY_BYTES], len: usize) -> NameKey
         requires { len < KEY_BYTES }
@@ -54,7 +54,7 @@ impl NameKey {
         }
     }
 
-    /// The key of a long name.
+    /// The key of a name of 16 bytes or more, which other names may share.
     fn long(name: &[u8]) -> NameKey
         requires { KEY_BYTES ≤ length name.now }
         ensures { result.len ≡ length name.now }
@@ -65,7 +65,7 @@ impl NameKey {
         NameKey { first, last, len }
     }
 
-    /// Whether two keys are one.
+    /// Whether two keys are equal.
     #[inline(always)]
     pub(crate) fn is(&self, other: &NameKey) -> bool
         ensures { IsTrue result ↔ self.now ≡ other.now }
@@ -74,13 +74,13 @@ impl NameKey {
     }
 }
 
-/// As many bytes that keep a byte as bytes that don't.
+/// Sixteen bytes that keep another byte in an `and`, and then sixteen that clear it.
 static KEPT: [u8; 2 * KEY_BYTES] = [
     255, 255, 255, 255, 255, 255, 255, 255, 255, 255, 255, 255, 255, 255, 255, 255, 0, 0, 0, 0, 0,
     0, 0, 0, 0, 0, 0, 0, 0, 0, 0, 0,
 ];
 
-/// The first bytes of an array, and zeros for the others.
+/// The first `len` bytes of an array, followed by zeros.
 #[inline(always)]
 fn first_kept(array: &[u8; KEY_BYTES], len: usize) -> [u8; KEY_BYTES]
     requires { len < KEY_BYTES }
@@ -90,7 +90,7 @@ fn first_kept(array: &[u8; KEY_BYTES], len: usize) -> [u8; KEY_BYTES]
     (u8x16::from_array(*array) & u8x16::from_array(*kept)).to_array()
 }
 
-/// Eight bytes as a word.
+/// Eight bytes as a little-endian word.
 #[inline(always)]
 fn word_of(bytes: &[u8]) -> u64
     requires { length bytes.now ≡ 8 }
@@ -99,7 +99,7 @@ fn word_of(bytes: &[u8]) -> u64
     u64::from_le_bytes(*as_array::<8>(bytes))
 }
 
-/// Where the first space of an array stands.
+/// The index of the first space in an array of 16 bytes.
 #[inline(always)]
 pub(crate) fn first_space(array: &[u8; KEY_BYTES]) -> Option<usize>
     ensures within { IfSome result (λ at. at < KEY_BYTES) }

@@ -1,4 +1,4 @@
-//! That a list with ample memory is made, and that its numbers are those of the order of taking.
+//! Tests that a list is made if memory is ample, and that chunks are numbered in the order in which they are taken.
 
 use super::*;
 use std::test::Fail;

@@ -1,12 +1,12 @@
 //! A run of taken chunks.
 
-/// Chunks in a row that were taken one after the other. It has at least one.
+/// A range of at least one chunk, whose chunks were taken one after the other.
 #[derive(Clone, Copy)]
 pub(crate) struct Run {
-    /// The first chunk.
+    /// The first chunk of the run.
     pub(crate) first: u64,
-    /// The number of the first chunk.
+    /// The number of the run's first chunk, in the order of taking.
     pub(crate) number: usize,
-    /// How many chunks it has.
+    /// How many chunks the run has.
     pub(crate) len: u64,
 }

@@ -1,14 +1,13 @@
-//! The run of a chunk, found by halving.
+//! Binary search for the run that holds a chunk.
 //!
-//! This is the one place where a chunk is compared with the first chunk of a run, and each comparison
-//! of a search is counted here.
+//! A chunk is compared with the first chunks of runs only here, and each comparison is counted.
 
 ghost use Rattle.dm_map.specs.Prelude.{length, binary_digits, AreBegunBy, AreRuns};
 ghost use Rattle.std.specs.Prelude.{◌≤◌};
 
 use crate::state::run_taken::run::Run;
 
-/// How many runs begin at the chunk or before it, and how many first chunks were compared with it.
+/// How many runs start at the chunk or before it, and with how many first chunks it was compared.
 pub(super) fn begun_by(runs: &[Run], chunk: u64) -> (usize, u64)
     ensures begun { AreBegunBy runs.now chunk result.0 }
     ensures few { result.1 ≤ binary_digits (length runs.now) }

@@ -1,31 +1,31 @@
-//! A link of a trie: what it leads to, in 32 bits.
+//! A link of a trie, packed into 32 bits.
 //!
-//! A table of links is written when a snapshot is loaded, so that they are as short as can be.
+//! The whole table of links is written when a snapshot is loaded, so links are as short as possible.
 
 ghost use Rattle.dm_map.specs.Prelude.{Empty, Number, Fork};
 ghost use Rattle.std.specs.Prelude.{◌≡◌, ◌<◌, ◌+◌, ◌^◌};
 
 use std::marker::Model;
 
-/// What a link leads to.
+/// The node that a link leads to.
 #[derive(Drop)]
 pub(crate) enum Node {
-    /// Nothing.
+    /// No chunk.
     Empty,
-    /// A taken chunk, by its number.
+    /// A taken chunk, by its number in the order of taking.
     Number(u32),
-    /// A test of a bit, and the index of the first of its two links: this is for the value 0, the next one
-    /// for 1.
+    /// A test of a bit, and the index of the first of two links: this one is for the bit's value 0, the next for
+    /// 1.
     Fork(u32, u32),
 }
 
 /// The least code of a link that leads to a fork.
 const FIRST_FORK: u32 = 1 << 31;
 
-/// How many indices there are for the links of a fork.
+/// How many different indices a fork can hold.
 const INDICES: u32 = 1 << 25;
 
-/// A node in 32 bits: 0 for nothing; a number plus 1; for a fork its bit and its index.
+/// A node as a 32-bit code: 0 for no chunk, a number plus 1, or from 2³¹ a fork's bit and index.
 #[derive(Drop)]
 pub(crate) struct Link {
     code: u32,
@@ -42,14 +42,14 @@ impl Model for Link {
 }
 
 impl Link {
-    /// A link to nothing.
+    /// The link to no chunk.
     pub(super) fn empty() -> Link
         ensures { result ≡ Empty }
     {
         Link { code: 0 }
     }
 
-    /// A link to a number.
+    /// The link to a chunk's number.
     pub(super) fn number(number: u32) -> Link
         requires { number + 1 < 2 ^ 31 }
         ensures { result ≡ Number number }
@@ -57,7 +57,7 @@ impl Link {
         Link { code: number + 1 }
     }
 
-    /// A link to a fork.
+    /// The link to a fork that tests this bit, with its two links from index `pair` on.
     pub(super) fn fork(bit: u32, pair: u32) -> Link
         requires bit { bit < 64 }
         requires pair { pair < 2 ^ 25 }
@@ -68,12 +68,12 @@ impl Link {
         }
     }
 
-    /// Its 32 bits.
+    /// The 32-bit code of the link.
     pub(super) fn code(&self) -> u64 {
         self.code as u64
     }
 
-    /// The node that it leads to.
+    /// The node that the link leads to.
     #[inline(always)]
     pub(super) fn node(&self) -> Node
         ensures { result ≡ self.now }

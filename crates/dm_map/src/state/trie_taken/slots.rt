@@ -1,26 +1,26 @@
-//! The slots of a trie's table: at which of its links the way of a chunk begins.
+//! The slots of a trie's table, which are the links that look-ups start at.
 
 ghost use Rattle.dm_map.specs.Prelude.{slot_of};
 ghost use Rattle.std.specs.Prelude.{◌≡◌, ◌+◌, ◌<◌, ◌≤◌};
 
-/// An odd number without a pattern: 2³² less its golden section.
+/// A multiplier without a pattern in its bits: 2³² minus 2³² over the golden ratio, which is odd.
 const SPREAD: u64 = 0x61C8_8647;
 
-/// The slots of a table, as many as a power of two.
+/// How chunks are spread over the slots of a table, whose number is a power of two.
 ///
-/// A chunk below their number has the slot of its own number. Of any other one the bits above those of a slot
-/// are spread over all of these, by a product of which the bits from 28 on are used: chunks that are a power of
-/// two apart, or lie in runs that are, share few slots.
+/// A chunk below the number of slots has the slot with its own number. For any other chunk, the high bits are
+/// multiplied, and the product from bit 28 on is mixed into the low bits: so chunks that are a power of two
+/// apart, or in runs that are, share few slots.
 #[derive(Drop)]
 pub(crate) struct Slots {
-    /// The bits of a slot, all of them set: the greatest slot.
+    /// The greatest slot, with all bits of a slot set.
     mask: u64,
-    /// The bits above those.
+    /// All bits above those of a slot, set.
     above: u64,
 }
 
 impl Slots {
-    /// This many slots, a power of two.
+    /// Makes this many slots; the number must be a power of two.
     pub(super) fn with_count(count: usize) -> Slots
         requires { 1 ≤ count }
         ensures { result.mask + 1 ≡ count }
@@ -29,7 +29,7 @@ impl Slots {
         Slots { mask, above: !mask }
     }
 
-    /// The slot of a chunk.
+    /// The slot at which the chunk's look-up starts.
     #[inline(always)]
     pub(super) fn of(&self, chunk: u64) -> usize
         ensures slot { result ≡ slot_of self.now chunk }

@@ -1,4 +1,4 @@
-//! That a trie with ample memory is made, and that its numbers are those of the order of taking.
+//! Tests that a trie is made if memory is ample, and that chunks are numbered in the order of taking.
 
 use super::*;
 use crate::fixtures::offer;
@@ -7,7 +7,8 @@ use std::test::Fail;
 #[test]
 fn chunks_are_found_by_their_bits(rt: HostRuntime) {
     let mut taken = TrieTaken::for_chunks(rt.alloc(), 6, 3).expect(&rt, "a trie");
-    // For three chunks the table has four links: the first three here begin at one, and part at bits 3 and 0.
+    // For three chunks the table has four slots. Chunks 0, 8 and 13 share one, and are told apart by bits 3 and
+    // 0.
     for chunk in [0, 8, 13, 3] {
         offer(&mut taken, chunk);
     }

@@ -1,9 +1,9 @@
-//! The usage of a store after one request, by the formula of the kernel's document.
+//! Tests of a store's usage after one request, against the formula in the kernel's document.
 
 use super::*;
 use crate::fixtures::{stack_of, told_after};
 
-/// Tables with one snapshot, the disks, a request of the snapshot, and the usage after it.
+/// A table with one snapshot, a disk list, a request to the snapshot, and the expected usage after it.
 static ROWS: [(&str, &str, &str, Usage); 6] = [
     (
         "s: 0 64 snapshot base cow P 1\n",
@@ -16,7 +16,7 @@ static ROWS: [(&str, &str, &str, Usage); 6] = [
             valid: true,
         },
     ),
-    // The place of the next chunk is after the second area.
+    // With 33 chunks taken, the place of the next one is after the second metadata area.
     (
         "s: 0 64 snapshot base cow P 1\n",
         "base 64\ncow 64\n",
@@ -28,7 +28,7 @@ static ROWS: [(&str, &str, &str, Usage); 6] = [
             valid: true,
         },
     ),
-    // And here it is past the end of the store.
+    // With 32 chunks taken, the place of the next one is past the end of the store.
     (
         "s: 0 64 snapshot base cow P 1\n",
         "base 64\ncow 34\n",
@@ -40,7 +40,7 @@ static ROWS: [(&str, &str, &str, Usage); 6] = [
             valid: true,
         },
     ),
-    // A store without a place for the last chunk, and an origin that cannot be read.
+    // Snapshots that are lost: a store without room for the last chunk, and then an origin that cannot be read.
     (
         "s: 0 32 snapshot base cow P 8\n",
         "base 32\ncow 32\n",
@@ -63,7 +63,7 @@ static ROWS: [(&str, &str, &str, Usage); 6] = [
             valid: false,
         },
     ),
-    // The numbers of the kernel's document: 49,542 chunks, all taken by one request.
+    // The kernel document's example: 49,542 chunks, here all taken by one request.
     (
         "s: 0 396336 snapshot base cow P 8\n",
         "base 396336\ncow 2097152\n",

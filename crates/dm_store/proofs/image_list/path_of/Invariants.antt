@@ -1,4 +1,4 @@
--- what the paths that are left give is what all give
+-- the search over the paths left finds what the search over all paths does
 use Rattle.dm_store.proofs.Prelude.{drop, find, is_same}
 use Rattle.dm_store.proofs.image_list.path_of.Given as goal
 use Rattle.std.specs.Prelude.{◌≡◌}

@@ -1,4 +1,4 @@
--- the disks so far have their places
+-- `places` has the images of the disks so far
 use Rattle.dm_store.proofs.Prelude.{map, take, image_in}
 use Rattle.dm_store.proofs.image_list.places_in.Given as goal
 use Rattle.std.specs.Prelude.{◌≡◌}

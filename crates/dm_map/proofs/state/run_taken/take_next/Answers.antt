@@ -4,7 +4,7 @@ use Rattle.dm_map.proofs.state.run_taken.take_next.Goals.{After-index_mut}
 use Rattle.dm_map.proofs.state.run_taken.take_next.Goals as goal
 use Rattle.std.specs.Prelude.{◌≡◌, ◌+◌, ◌-◌, ◌<◌}
 
--- the run that gets longer
+-- the run that is lengthened is the last one that starts at the chunk or before
 longer : (c : After-index_mut) → c.index_mut.result.now ≡ run_at c.args.runs.now.items (c.begun_by-begun.result.0 - 1)
 longer c =
     let runs = c.args.runs.now.items in

@@ -15,7 +15,7 @@ loop-next-init g c =
       looked = omega arith;
     }
 
--- the snapshot that is looked up next
+-- the snapshot whose table is made next
 record IsNext (stack : Description) (next device : ℕ) : Type 0 where
   within : next < length (snapshots stack)
   is : device ≡ get_or (snapshots stack) next device

@@ -14,7 +14,7 @@ use Rattle.dm_map.proofs.walk.range.+walk.Goals as goal
 use Rattle.dm_map.proofs.walk.range.+walk.Goals.{map_device-then-levels-eq0-via-then-levels-eq0, map_device-then-levels-eq0-via-else-levels-eq0+then-refuses}
 use Rattle.std.specs.Prelude.{◌≡◌, ◌+◌, ◌-◌, ◌≤◌}
 
--- A disk
+-- `map_range` on a disk
 
 pub map_range-returns-in-Disk : goal.map_range-returns-in-Disk
 map_range-returns-in-Disk g t c =
@@ -24,7 +24,7 @@ map_range-returns-in-Disk g t c =
       bounded = λ is sound. omega arith;
     }
 
--- A device
+-- `map_device`
 
 pub map_device-returns-then-levels-eq0 : goal.map_device-returns-then-levels-eq0
 map_device-returns-then-levels-eq0 g t c =
@@ -62,7 +62,7 @@ pub map_device-returns : goal.map_device-returns
 map_device-returns g t c =
     let a = c.args in let look = c.look-line.ensures in mapped_after_look (range_mapping a.op a.levels (Device a.device)) refl look.same look.looked look.one c.map_lines.ensures
 
--- Line by line
+-- `map_lines`
 
 pub map_lines-returns-then-part-left : goal.map_lines-returns-then-part-left
 map_lines-returns-then-part-left g t c =
@@ -89,7 +89,7 @@ map_lines-lines-preserved g t c =
       line = line;
     }
 
--- One line
+-- `map_line`
 
 pub map_line-leg-leg-requires-clause-there : goal.map_line-leg-leg-requires-clause-there
 map_line-leg-leg-requires-clause-there g t c =
@@ -113,7 +113,7 @@ pub map_line-returns : goal.map_line-returns
 map_line-returns g t c =
     let a = c.args in mapped_line a.op a.levels (a.levels - 1) a.device a.sector a.len a.line.now (omega (arith, c.requires.at.deep)) c.requires.at.passes c.requires.at.of c.requires.some c.requires.inside c.map_legs.ensures
 
--- Leg by leg
+-- `map_legs`
 
 pub map_legs-legs-legs-requires-clause-there : goal.map_legs-legs-legs-requires-clause-there
 map_legs-legs-legs-requires-clause-there g t c =
@@ -168,7 +168,7 @@ map_legs-legs-preserved g t c =
       here = ap (λ (v : LegsView). v.distance) after ∙ ap (λ (p : ℕ). p + n) l.invariant.here;
     }
 
--- A leg
+-- `map_leg`
 
 pub map_leg-map_range-requires : goal.map_leg-map_range-requires
 map_leg-map_range-requires g t c κs within =
@@ -233,7 +233,7 @@ map_leg-returns-in-Origin g t c line of =
     (mapped_below a.op a.levels a.device line.start a.distance line.start line (Origin origin) origin.to (of.of.all line.start (omega arith) (omega (arith, of.some, of.inside))) kind of.some (λ i within. refl)
     (sym (line_served w.stack a.op a.levels a.device origin a.distance a.leg.now.len w.state)) c.map_origin.ensures)
 
--- A snapshot
+-- `map_snapshot`
 
 pub map_snapshot-returns-in-Read : goal.map_snapshot-returns-in-Read
 map_snapshot-returns-in-Read g t c =
@@ -248,9 +248,9 @@ map_snapshot-returns-in-Write g t c =
       bounded = λ is sound. absurd cc;
     }
 
--- A read of it, run by run
+-- `read_snapshot`, whose loop reads a run of chunks at once
 
--- sectors that are read in a row, in the state that a walk began with
+-- the walk of sectors that are read in a row, in the state in which the read began
 run : {S R F : Type 0} {past : SinkPast S} {result : Result R F} {old new : S} {before after : WalkerView} (levels device sector n : ℕ) (snapshot : ResolvedSnapshot) (source : ReadAt) (first : WalkerView)
     → stack_state before ≡ stack_state first → snapshot_at first.stack device ≡ Some snapshot → 1 ≤ n → AreReadAt first.stack first.state device snapshot sector n source
     → IsMapped past result old new before after (range_mapping Read levels source.to) source.sector n → IsMapped past result old new before after (target_mapping Read levels device 0 (Snapshot snapshot)) sector n
@@ -326,7 +326,7 @@ read_snapshot-returns g t c =
     mapped_last g.met.S.Sink.lawful keeps it.so_far
     (run a.levels a.device l.from l.left a.snapshot.now l.source w (mapped_still keeps it.so_far refl) c.requires.asked.inside.is some (subst (λ (n : ℕ). AreReadAt w.stack w.state a.device a.snapshot.now l.from n l.source) whole it.source) c.map_range-2.ensures) some
 
--- An origin
+-- `map_origin`
 
 pub map_origin-returns-in-Read : goal.map_origin-returns-in-Read
 map_origin-returns-in-Read g t c =
@@ -343,7 +343,7 @@ map_origin-returns-in-Write g t c =
     let a = c.args in let walk = c.write_origin in
     subst (λ (op : Op). IsMapped g.S.Sink.past walk.result a.sink.now walk.new.sink a.walker.now walk.new.walker (origin_mapping op a.levels a.origin.now) a.sector a.len) (sym c.in-Write.is) walk.ensures
 
--- A write of it, part by part
+-- `write_origin`, part by part
 
 pub write_origin-loop-left-init : goal.write_origin-loop-left-init
 write_origin-loop-left-init g t c = record { so_far = mapped_none g.met.S.Sink.lawful refl; some = c.requires.asked.some }

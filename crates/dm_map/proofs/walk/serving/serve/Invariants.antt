@@ -1,4 +1,4 @@
--- those so far are served
+-- the snapshots before this one were served
 use Rattle.dm_map.proofs.Prelude.{take, serve, IsWalked}
 use Rattle.dm_map.proofs.walk.WalkedOn.{going_on}
 use Rattle.dm_map.proofs.walk.serving.serve.Given as goal

@@ -34,14 +34,14 @@ loop-part-preserved g c =
       settled = chunk_more (taken_at a.walker.now.state one.device) one.snapshot a.sector l.part n some (omega (arith, n_is)) (rw c.chunk_of.ensures at (sym c.is_settled.ensures ∙ c.if-is_settled.true)) l.invariant.settled;
     }
 
--- nothing is left to do for a lost snapshot
+-- in a lost snapshot all sectors are settled
 
 pub returns-then-not-is_valid : goal.returns-then-not-is_valid
 returns-then-not-is_valid g c =
     let lost = sym c.is_valid.ensures.valid ∙ c.if-not-is_valid.true in
     record { some = c.requires.some; most = omega arith; holds = λ i within. rw lost refl; whole = λ less. absurd (omega (arith, less)) }
 
--- the loop ends at a chunk that is not settled, or where there is no further sector
+-- the loop ends at a chunk that isn't settled, or after the last sector
 
 pub returns-else-is_settled : goal.returns-else-is_settled
 returns-else-is_settled g c =

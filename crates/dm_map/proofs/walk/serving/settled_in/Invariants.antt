@@ -1,4 +1,4 @@
--- the sectors so far are settled
+-- the sectors before `part` are settled
 use Rattle.dm_map.proofs.Prelude.{ℕ, true, is_settled, taken_at}
 use Rattle.dm_map.proofs.walk.serving.settled_in.Given as goal
 use Rattle.std.specs.Prelude.{◌≡◌, ◌+◌, ◌-◌, ◌/◌, ◌<◌, ◌≤◌}

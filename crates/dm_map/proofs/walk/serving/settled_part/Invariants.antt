@@ -1,4 +1,4 @@
--- as far as those so far are settled
+-- `part` is how far the sectors are settled in the snapshots before this one
 use Rattle.dm_map.proofs.Prelude.{take, AreSettled, IsLongest}
 use Rattle.dm_map.proofs.walk.serving.settled_part.Given as goal
 use Rattle.std.specs.Prelude.{◌+◌}

@@ -7,7 +7,7 @@ use Rattle.dm_map.proofs.walk.Rows.{added_then, none_added}
 use Rattle.dm_map.proofs.walk.stretch.+stretch.Goals as goal
 use Rattle.std.specs.Prelude.{◌≡◌, ◌+◌, ◌-◌, ◌<◌, ◌≤◌}
 
--- A first stretch that is known without a look-up, and one that goes on from a stretch below
+-- A first stretch that is known without a look-up, and one that follows from a stretch below
 
 known : (walk : WalkerView) (reads : ℕ → Step) (n len : ℕ) (ground : Ground) → 1 ≤ n → n ≤ len → reads n ≡ keep (units_in (ground_unit ground) n) walk.state → IsGroundInStack walk.stack ground n → IsFirst walk walk reads len (record { ground = ground; len = n })
 known walk reads n len ground some most read lies = record { some = some; most = most; read = read; lies = lies; same = refl; looked = none_added walk.looked }
@@ -15,7 +15,7 @@ known walk reads n len ground some most read lies = record { some = some; most =
 below : (before after : WalkerView) (reads reads_below : ℕ → Step) (part len : ℕ) (stretch : Stretch) → IsFirst before after reads_below part stretch → part ≤ len → reads stretch.len ≡ reads_below stretch.len → IsFirst before after reads len stretch
 below before after reads reads_below part len stretch s few is = record { some = s.some; most = omega (arith, s.most, few); read = is ∙ s.read; lies = s.lies; same = s.same; looked = s.looked }
 
--- A disk, and a device
+-- `first_stretch` on a disk, and `device_stretch`
 
 pub first_stretch-returns-in-Disk : goal.first_stretch-returns-in-Disk
 first_stretch-returns-in-Disk g t c =
@@ -62,7 +62,7 @@ device_stretch-returns g t c =
       looked = added_then w.looked c.look-line.new.self.looked c.line_stretch.new.walker.looked c.look-line.ensures.looked s.looked;
     }
 
--- A line, by what lies beneath its first leg
+-- `line_stretch`, by what lies below the first leg of the line
 
 pub line_stretch-leg-below-requires-clause-there : goal.line_stretch-leg-below-requires-clause-there
 line_stretch-leg-below-requires-clause-there g t c =
@@ -93,7 +93,7 @@ line_stretch-returns-in-Errors g t c =
     known w _ c.leg-below.result.len a.len grounds.Fails leg.some leg.within
     (leg_errors w.stack Read a.levels a.device a.line.now.target a.distance c.leg-below.result.len w.state (beneath_as a.line.now.target a.distance c.leg-below.result.len _ _ c.in-Errors.is leg.is)) tt
 
--- an origin
+-- the first leg is an origin's
 pub line_stretch-first_stretch-requires-in-Origin : goal.line_stretch-first_stretch-requires-in-Origin
 line_stretch-first_stretch-requires-in-Origin g t c κs within =
     let a = c.args in let leg = c.leg-below.ensures.leg in
@@ -111,7 +111,7 @@ line_stretch-returns-in-Origin g t c =
     below w _ _ _ c.leg-below.result.len a.len _ c.first_stretch-in-Origin.ensures leg.within
     (ap (λ target. line_step w.stack Read a.levels a.device target w.state a.distance n) kind ∙ line_served w.stack Read a.levels a.device c.in-Origin.origin.now a.distance n w.state ∙ origin_read w.stack a.levels c.in-Origin.origin.now a.distance n w.state)
 
--- a snapshot
+-- the first leg is a snapshot's
 pub line_stretch-read_at-requires : goal.line_stretch-read_at-requires
 line_stretch-read_at-requires g t c =
     let a = c.args in let stack = a.walker.now.stack in let part = c.part_of_chunk-part.ensures in let leg = c.leg-below.ensures.leg in let most = c.leg-below.result.len in

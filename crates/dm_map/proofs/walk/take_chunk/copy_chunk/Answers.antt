@@ -16,11 +16,11 @@ store_start-to-requires g c =
 next_place : (place chunk : ℕ) → (place + 1) * chunk ≡ place * chunk + chunk
 next_place place chunk = omega arith
 
--- of sectors that read without an error the first stretch doesn't fail
+-- the first stretch of sectors that can all be read doesn't fail
 doesnt_fail : (walk : WalkerView) (lower : Lower) (sector len : ℕ) (stretch : Stretch) → IsFirstOf walk walk MOST_DEPTH lower sector len stretch → reads_all walk.stack walk.state lower sector len ≡ true → stretch.ground ≡ Fails → ⊥
 doesnt_fail walk lower sector len stretch first reads fails = both_ways _ (fails_on walk lower sector len stretch first fails) reads
 
--- the chunk's place begins where its first sector lies
+-- the place in the store begins where the chunk's first sector goes
 begins_at : (at rest : ℕ) → {start : ℕ} → start ≡ at → rest ≡ 0 → start ≡ at + rest
 begins_at at rest start begins = omega (arith, start, begins)
 

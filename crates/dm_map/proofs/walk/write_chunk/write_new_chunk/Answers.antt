@@ -5,11 +5,11 @@ use Rattle.dm_map.proofs.walk.Rows.{walked_as, walked_cut, walked_piece, walked_
 use Rattle.dm_map.proofs.walk.write_chunk.write_new_chunk.Goals as goal
 use Rattle.std.specs.Prelude.{◌≡◌, ◌/◌, ◌<◌, ◌≤◌, ◌&&◌}
 
--- such a chunk is not refused where the store isn't keeping, or has a place for one more
+-- a chunk that isn't taken is not refused if the store isn't keeping, or has room for one more
 passing : (stack : Description) (snapshot : ResolvedSnapshot) (taken : Taken) (chunk : ℕ) (refused : Bool) → taken.valid ≡ true → number_in chunk taken.chunks ≡ None → refused ≡ (is_keeping snapshot.kind && not (has_place stack snapshot (length taken.chunks))) → is_refused stack snapshot taken chunk ≡ refused
 passing stack snapshot taken chunk refused valid fresh is = refused_as stack snapshot taken chunk (not_settled taken chunk valid fresh) ∙ sym is
 
--- once it is taken, what is done at its sectors
+-- after the chunk is taken, its sectors are written
 taken_then : {S R F : Type 0} {past : SinkPast S} {result : Result (Unit {0}) F} {made : R} {old middle new : S} {walk after last : WalkerView} → IsLawful past → (snapshot : ResolvedSnapshot) (device sector len m : ℕ) (units : List BlockUnit) → AreInChunk walk.stack device snapshot sector len → 1 ≤ len → length walk.state ≡ length walk.stack.devices
     → is_refused walk.stack snapshot (taken_at walk.state device) (sector / snapshot.chunk) ≡ false → IsWalked {F = F} past (Ok made) old middle walk after (take_chunk walk.stack snapshot device (sector / snapshot.chunk) walk.state) 0
     → row (unit_in_store walk.stack snapshot device after.state) sector len ≡ units → m ≤ len → IsWalked past result middle new after last (keep units after.state) m → IsWalked past result old new walk last (steps (write_snapshot walk.stack snapshot device) walk.state sector len) len

@@ -1,4 +1,4 @@
--- What the closure returned of a line and what it says by ids is what its test says of the line.
+-- The closure's result for a line, and the line with ids, is what the test says about the line.
 use Rattle.dm_stack.proofs.Prelude.{true, false, ◌∙◌, length, resolved_line}
 use Rattle.dm_stack.proofs.checks.PlacedLemmas.{bad_before, good_here}
 use Rattle.dm_stack.proofs.lines.ByDevice.{made_at, table_is}
@@ -6,7 +6,7 @@ use Rattle.dm_stack.proofs.checks.faults.check_by_ids.Goals as goal
 use Rattle.dm_stack.proofs.checks.faults.check_by_ids.Goals.{After-is_bad}
 use Rattle.std.specs.Prelude.{◌≡◌}
 
--- the line by ids
+-- the line with ids is this line's
 line_is : (g : _) (c : After-is_bad g) → c.index-resolved-index.result ≡ resolved_line c.args.stack.now c.index-lines-index.result
 line_is g c =
     let table = table_is c.args.stack.now c.devices-device-items.result.now c.by_ids-by_ids.result.now c.loop-id.id c.device-item.result c.index-by_ids-id.result c.as_slice-lines.result.now c.lines-resolved.result.now c.devices-device-items.ensures c.by_ids-by_ids.ensures c.loop-id-test.true c.device-item.is c.as_slice-lines.ensures c.lines-resolved.ensures in

@@ -1,4 +1,4 @@
--- by each test that the closure computes of lines, the rest has the first fault of all
+-- for every test that the closure computes, the lines left have the first fault of all lines
 use Rattle.dm_stack.proofs.Prelude.{Bor, ℕ, Bool, None, drop, length, FnReturns, flat_map, Line, faults_by, first_or, ResolvedLine, device_faults, resolved_line}
 use Rattle.dm_stack.proofs.checks.faults.check_by_ids.Given as goal
 use Rattle.std.specs.Prelude.{◌≡◌, ◌+◌, ◌++◌}

@@ -1,4 +1,4 @@
--- What the closure returned is what its test says of the element.
+-- The closure's result for an element is what the test says about it.
 use Rattle.dm_stack.proofs.Prelude.{true, false, refl}
 use Rattle.dm_stack.proofs.checks.PlacedLemmas.{bad_here, good_here}
 use Rattle.dm_stack.proofs.checks.faults.check_each.Goals as goal

@@ -1,4 +1,4 @@
--- by each test that the closure computes, the rest has the first fault of the list
+-- for every test that the closure computes, the elements left have the first fault of the list
 use Rattle.dm_stack.proofs.Prelude.{Bool, None, drop, FnReturnsAt, faults_by, first_or}
 use Rattle.dm_stack.proofs.checks.faults.check_each.Given as goal
 use Rattle.std.specs.Prelude.{◌≡◌}

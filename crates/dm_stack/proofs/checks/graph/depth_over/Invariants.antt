@@ -1,4 +1,4 @@
--- the greatest so far and that of what is left give the greatest of all, and no depth passes its bound
+-- the greatest depth so far and the greatest of those left give that of all, and no depth is above its bound
 use Rattle.dm_stack.proofs.Prelude.{max, map, drop, get_or, greatest}
 use Rattle.dm_stack.proofs.checks.graph.depth_over.Given as goal
 use Rattle.std.specs.Prelude.{◌≡◌, ◌≤◌}

@@ -1,4 +1,4 @@
--- A round is that of one level more, and one that changes nothing is the last.
+-- Each round adds one level, and a round that changes nothing is the last.
 use Rattle.dm_stack.proofs.Prelude.{◌∙◌, sym, length, arith, Decides-eqb, slice_eq-Decides, length-map, links_in}
 use Rattle.dm_stack.proofs.checks.RoundLemmas.{round_after, round_last, within_depths, bounded_depths, depths_to-none}
 use Rattle.dm_stack.proofs.checks.graph.depths.Goals as goal

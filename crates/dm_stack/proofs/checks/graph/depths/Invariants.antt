@@ -1,4 +1,4 @@
--- after each round the depths are those of one level more
+-- after each round, `depths` has the depths for one level more
 use Rattle.dm_stack.proofs.Prelude.{depths_to, links_in}
 use Rattle.dm_stack.proofs.checks.graph.depths.Given as goal
 use Rattle.std.specs.Prelude.{◌≡◌}

@@ -1,4 +1,4 @@
--- Only what is as deep as it was followed can reach itself, and the search says of each whether it does.
+-- Only a device at the cut-off depth can be on a cycle, and a search of the graph tells whether it is.
 use Rattle.dm_stack.proofs.Prelude.{arith, below_more}
 use Rattle.dm_stack.proofs.checks.RoundLemmas.{depths-length, shallow_at}
 use Rattle.dm_stack.proofs.checks.graph.first_cycle.Goals as goal

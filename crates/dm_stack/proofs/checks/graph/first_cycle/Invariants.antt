@@ -1,4 +1,4 @@
--- no device so far reaches itself
+-- no device so far is on a cycle
 use Rattle.dm_stack.proofs.Prelude.{ℕ, links_in, Reaches}
 use Rattle.dm_stack.proofs.checks.graph.first_cycle.Given as goal
 use Rattle.std.specs.Prelude.{◌<◌}

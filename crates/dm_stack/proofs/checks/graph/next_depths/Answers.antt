@@ -1,4 +1,4 @@
--- What a device names has its depth among those that are at hand.
+-- Every device named has its depth among those given.
 use Rattle.dm_stack.proofs.checks.RoundLemmas.{named_within}
 use Rattle.dm_stack.proofs.checks.graph.next_depths.Goals as goal
 

@@ -1,4 +1,4 @@
--- the depths so far and those of the devices that are left are those of all
+-- the depths so far, followed by those of the devices left, are the depths of all devices
 use Rattle.dm_stack.proofs.Prelude.{map, drop, depth_over, links_in}
 use Rattle.dm_stack.proofs.checks.graph.next_depths.Given as goal
 use Rattle.std.specs.Prelude.{◌≡◌, ◌++◌}

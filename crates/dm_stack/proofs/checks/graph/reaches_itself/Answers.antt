@@ -1,4 +1,4 @@
--- Each visit keeps the search, and at its end what is visited is what is reached.
+-- Each visit keeps the search's invariant, and at the end the visited devices are those that are reached.
 use Rattle.dm_stack.proofs.Prelude.{length, sym, ap, ◌∙◌, arith, length-map, nil_from_length, links_in}
 use Rattle.dm_stack.proofs.checks.SearchLemmas.{Searched-begun, Searched-on, Searched-below, Searched-none, named_is, named_inside}
 use Rattle.dm_stack.proofs.checks.graph.reaches_itself.Goals as goal

@@ -1,4 +1,4 @@
--- the search so far; each turn looks at one that waits, and each device waits once
+-- the state of the search so far; each turn looks at one waiting device, and each device waits at most once
 use Rattle.dm_stack.proofs.Prelude.{length, links_in, unvisited}
 use Rattle.dm_stack.proofs.checks.SearchLemmas.{Searched}
 use Rattle.dm_stack.proofs.checks.graph.reaches_itself.Given as goal

@@ -1,4 +1,4 @@
--- A device that was visited before adds nothing; another one is visited and waits.
+-- A device visited before changes nothing; any other is marked and waits.
 use Rattle.dm_stack.proofs.Prelude.{length, get_or, arith, Contains-get_or}
 use Rattle.dm_stack.proofs.checks.SearchLemmas.{Visits-skip, Visits-push}
 use Rattle.dm_stack.proofs.checks.graph.visit.Goals as goal

@@ -1,4 +1,4 @@
--- those named so far are visited
+-- the devices named so far are visited
 use Rattle.dm_stack.proofs.Prelude.{take, Visits}
 use Rattle.dm_stack.proofs.checks.graph.visit.Given as goal
 

@@ -1,4 +1,4 @@
--- what is noted so far, with the faults of the devices that are left, is what all devices give
+-- the faults noted so far, with those of the devices left, are the faults of all devices
 use Rattle.dm_stack.proofs.Prelude.{drop, no_bad_lines, noted_devices}
 use Rattle.dm_stack.proofs.checks.lines.bad_lines.Given as goal
 use Rattle.std.specs.Prelude.{◌≡◌}

@@ -1,4 +1,4 @@
--- what is noted so far, with the faults of the lines that are left, is what the whole device adds
+-- the faults noted so far, with those of the lines left, are the faults after the whole device
 use Rattle.dm_stack.proofs.Prelude.{drop, length, noted_device, noted_lines}
 use Rattle.dm_stack.proofs.checks.lines.note_device.Given as goal
 use Rattle.std.specs.Prelude.{◌≡◌}

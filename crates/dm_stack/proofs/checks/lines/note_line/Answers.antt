@@ -1,4 +1,4 @@
--- What is noted of a line by ids is what its checks say of it by names.
+-- The faults noted for a line with ids are those that the checks define for the line with names.
 use Rattle.dm_stack.proofs.Prelude.{ap, ◌∙◌, ResolvedLine, has_bad_stripes, is_bad_snapshot, is_unknown}
 use Rattle.dm_stack.specs.checks.Soundness as by_names
 use Rattle.dm_stack.proofs.lines.SpanLemmas.{past_is, unknown_is}

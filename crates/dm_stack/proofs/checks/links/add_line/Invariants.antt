@@ -1,4 +1,4 @@
--- what is left to name, after what was named so far, gives all of it
+-- the links so far, with those of the spans left, are all links of the line
 use Rattle.dm_stack.proofs.Prelude.{flat_map, lower_link}
 use Rattle.dm_stack.specs.lines.Span.{line_links}
 use Rattle.dm_stack.proofs.lines.SpanLemmas.{spans_left}

@@ -1,4 +1,4 @@
--- What the checks found is handed on, and what a stack keeps is what was made.
+-- A fault of a check is returned, and the values made along the way are what the stack keeps.
 use Rattle.dm_stack.proofs.Prelude.{[], ap, ◌∙◌, map, inr, take, first_fault-none, Description, resolved_device, stack_depth, snapshots, checks_before}
 use Rattle.dm_stack.proofs.checks.HandedOn.{ends_within}
 use Rattle.dm_stack.proofs.checks.LoadLemmas.{handed, made_ok}
@@ -14,7 +14,7 @@ new-indexed-requires-clause-small c =
     let stack : Description = record { devices = c.args.devices.now; disks = c.args.disks.now } in
     ends_within stack (first_fault-none (take 3 (checks_before stack)) c.in_ok-names.ensures.passed).1.0
 
--- the devices by ids
+-- the devices with ids are those of the lists
 by_ids : (c : In_ok-found) → c.in_ok-found.found.items ≡ map (resolved_device (record { devices = c.args.devices.now; disks = c.args.disks.now })) c.args.devices.now
 by_ids c =
     made_ok c.resolved_devices.result c.in_ok-found.found (λ found. found.items ≡ map (resolved_device c.new-indexed.result) c.new-indexed.result.devices) c.in_ok-found.ensures.made c.resolved_devices.ensures

@@ -1,4 +1,4 @@
--- Each check finds its fault where those before it find nothing.
+-- Each check fails with its first fault when the checks before it found nothing.
 use Rattle.dm_stack.proofs.Prelude.{List, None, sym, ap, ◌∙◌, get_or, nat_lt, Deep, LoadFault, first_or, first_or-none, links, depths_to, OnCycle, deep, faults_by_id, snapshot}
 use Rattle.dm_stack.proofs.checks.ChunkLemmas.{good_chunks}
 use Rattle.dm_stack.proofs.checks.DepthTests.{depth_each, told_depths}
@@ -10,7 +10,7 @@ use Rattle.std.specs.Prelude.{◌≡◌}
 pub returns-in_err-check_cycles-clause-fault : goal.returns-in_err-check_cycles-clause-fault
 returns-in_err-check_cycles-clause-fault c = handed _ _ _ c.from_residual.ensures.1 (OnCycle c.requires.before c.in_err-check_cycles.ensures.fault)
 
--- the depths that were counted
+-- the depths are those of the stack's devices
 depths_are : (c : After-deref) → c.deref.result.now ≡ depths_to (links c.args.stack.now) 33
 depths_are c = c.deref.ensures.value ∙ c.requires.depths
 

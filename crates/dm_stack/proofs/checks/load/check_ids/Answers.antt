@@ -1,4 +1,4 @@
--- What was followed is what the checks by it go by.
+-- The cycle and depths that were found are those that the later checks need.
 use Rattle.dm_stack.proofs.Prelude.{inl, inr, sym, ◌∙◌, take, first_fault-none, links, IsFirstRing, depths_to, checks_before, store_links}
 use Rattle.dm_stack.proofs.checks.HandedOn.{ends_within}
 use Rattle.dm_stack.proofs.checks.LoadLemmas.{closed_links, deepest_is, handed, made_ok, none_found, nothing_found, refused_early}

@@ -1,4 +1,4 @@
--- Each check finds its fault where those before it find nothing.
+-- Each check fails with its first fault when the checks before it found nothing.
 use Rattle.dm_stack.proofs.Prelude.{inl, sym, take, checks_before}
 use Rattle.dm_stack.proofs.checks.LoadLemmas.{found_or_memory, handed, nothing_found, refused_early}
 use Rattle.dm_stack.proofs.checks.load.check_texts.Goals as goal

@@ -1,4 +1,4 @@
--- A name that is in the index stands before, and one that is new does not.
+-- A name that is in the index already is that of an earlier element; a new one is not.
 use Rattle.dm_stack.proofs.Prelude.{[], None, true, false, sym, ◌∙◌, not-true, not-false, take_all, Source, first_or, twice_in}
 use Rattle.dm_stack.proofs.names.NameLemmas.{names_more, refused_twice, seen_in, stands_nowhere, stands_once, stands_twice}
 use Rattle.dm_stack.proofs.checks.names.index_of.Goals as goal

@@ -1,4 +1,4 @@
--- the rest has the first fault of the list, and the names so far are indexed
+-- the elements left have the first fault of the list, and the names so far are indexed
 use Rattle.dm_stack.proofs.Prelude.{None, map, take, first_or, twice_in}
 use Rattle.dm_stack.proofs.names.NameLemmas.{twice_from}
 use Rattle.dm_stack.proofs.checks.names.index_of.Given as goal

@@ -1,4 +1,4 @@
--- a span that is left names what isn't there exactly where one of the line does
+-- one of the spans left names an unknown device or disk exactly if one of the line does
 use Rattle.dm_stack.proofs.Prelude.{list_any, is_missing, names_missing}
 use Rattle.dm_stack.proofs.lines.SpanLemmas.{spans_left}
 use Rattle.dm_stack.proofs.checks.ranges.names_missing.Given as goal

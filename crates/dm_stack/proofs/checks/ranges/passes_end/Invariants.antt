@@ -1,4 +1,4 @@
--- a span that is left passes an end exactly where one of the line does
+-- one of the spans left passes an end exactly if one of the line does
 use Rattle.dm_stack.proofs.Prelude.{list_any, is_past}
 use Rattle.dm_stack.specs.lines.Span.{passes_end}
 use Rattle.dm_stack.proofs.lines.SpanLemmas.{spans_left}

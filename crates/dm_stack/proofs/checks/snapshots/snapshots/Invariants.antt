@@ -1,4 +1,4 @@
--- the ids so far are those of the devices so far
+-- the ids so far are those of the snapshots among the devices so far
 use Rattle.dm_stack.proofs.Prelude.{filter, range_with_len}
 use Rattle.dm_stack.proofs.checks.SnapshotIds.{is_over}
 use Rattle.dm_stack.proofs.checks.snapshots.snapshots.Given as goal

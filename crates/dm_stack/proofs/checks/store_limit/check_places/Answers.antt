@@ -5,7 +5,7 @@ use Rattle.dm_stack.proofs.checks.store_limit.check_places.Goals as goal
 use Rattle.dm_stack.proofs.checks.store_limit.check_places.Goals.{After-places_of-places}
 use Rattle.std.specs.Prelude.{◌+◌, ◌≡◌}
 
--- the places of the line that is next
+-- the places counted for the next line are those of its store
 places_here : (c : After-places_of-places) → c.places_of-places.result ≡ line_places c.args.stack.now c.line-item.result
 places_here c =
     let stack = c.args.stack.now in

@@ -1,4 +1,4 @@
--- the stores so far have not too many places, and the rest has the first fault of all lines
+-- the stores so far are within the limit, and the lines left have the first fault of all lines
 use Rattle.dm_stack.proofs.Prelude.{None, drop, first_or, all_lines, crowded}
 use Rattle.dm_stack.proofs.checks.CrowdLemmas.{crowded_from}
 use Rattle.dm_stack.proofs.checks.store_limit.check_places.Given as goal

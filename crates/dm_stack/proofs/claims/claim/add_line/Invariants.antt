@@ -1,4 +1,4 @@
--- what is left to claim, after what was claimed so far, gives all claims of the line
+-- the claims so far, with those of the spans left, are all claims of the line
 use Rattle.dm_stack.proofs.Prelude.{false, map, list_any, is_past, line_claims}
 use Rattle.dm_stack.specs.lines.Span.{span_claim}
 use Rattle.dm_stack.proofs.lines.SpanLemmas.{spans_left}

@@ -1,4 +1,4 @@
--- a span that is left names the device exactly where one of the line does
+-- one of the spans left names the device exactly if one of the line does
 use Rattle.dm_stack.proofs.Prelude.{list_any, is_device, line_names}
 use Rattle.dm_stack.proofs.lines.SpanLemmas.{spans_left}
 use Rattle.dm_stack.proofs.claims.claim.line_names.Given as goal

@@ -1,4 +1,4 @@
--- the devices that none of the claims so far is on
+-- `free` marks the devices on which none of the claims so far is
 use Rattle.dm_stack.proofs.Prelude.{ℕ, false, length, not, slice_index_or, take, list_any, is_device}
 use Rattle.dm_stack.proofs.claims.claim.unclaimed.Given as goal
 use Rattle.std.specs.Prelude.{◌≡◌, ◌<◌}

@@ -1,4 +1,4 @@
--- none of the claims so far meets the later one
+-- none of the claims so far clashes with the later one
 use Rattle.dm_stack.proofs.Prelude.{drop, clash_with}
 use Rattle.dm_stack.proofs.claims.tidy.clash_at.Given as goal
 use Rattle.std.specs.Prelude.{◌≡◌}

@@ -1,4 +1,4 @@
--- the claims so far, with their numbers
+-- `order` has the claims so far, with their numbers
 use Rattle.dm_stack.proofs.Prelude.{take, numbered}
 use Rattle.dm_stack.proofs.claims.tidy.in_order.Given as goal
 use Rattle.std.specs.Prelude.{◌≡◌}

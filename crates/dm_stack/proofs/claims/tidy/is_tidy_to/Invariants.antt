@@ -1,4 +1,4 @@
--- the claims so far do not meet, and what is kept of them is how far they reach
+-- no two of the claims so far clash, and `reaches` is how far they reach
 use Rattle.dm_stack.proofs.Prelude.{[], drop, length, take, Lower, has_pair, reach_at, reach_of, rivals}
 use Rattle.dm_stack.proofs.claims.tidy.is_tidy_to.Given as goal
 use Rattle.std.specs.Prelude.{◌≡◌}

@@ -1,4 +1,4 @@
--- none of the claims below the one index meet, and some below the other do
+-- no two claims with numbers below the lower bound clash, and some below the upper bound do
 use Rattle.dm_stack.proofs.Prelude.{false, length, true, is_tidy_to}
 use Rattle.dm_stack.proofs.claims.tidy.tidy_len.Given as goal
 use Rattle.std.specs.Prelude.{◌≡◌, ◌<◌, ◌≤◌, ◌-◌}

@@ -1,4 +1,4 @@
--- the sought line is one of count lines from index on; each comparison halves how many come after the first of them
+-- the line of the sector is one of `count` lines from `index` on, and each comparison halves how many come after the first
 use Rattle.dm_stack.proofs.Prelude.{length, StartsAfter, StartsBy}
 use Rattle.dm_stack.proofs.lines.line_search.search.Given as goal
 use Rattle.std.specs.Prelude.{◌+◌, ◌-◌, ◌*◌, ◌^◌, ◌<◌, ◌≤◌}

@@ -1,4 +1,4 @@
--- what is kept so far is what passes of those so far
+-- `over` has those of the snapshots so far that have this origin
 use Rattle.dm_stack.proofs.Prelude.{take, filter, is_same_lower}
 use Rattle.dm_stack.proofs.lines.over.snapshots_over.Given as goal
 use Rattle.std.specs.Prelude.{◌≡◌}

@@ -5,7 +5,7 @@ use Rattle.dm_stack.proofs.lines.resolved_table.firsts_of.Goals.{After-len-in-lo
 use Rattle.dm_stack.proofs.lines.resolved_table.firsts_of.Goals as goal
 use Rattle.std.specs.Prelude.{◌≡◌, ◌+◌, ◌*◌, ◌/◌, ◌%◌, ◌^◌, ◌<◌, ◌≤◌, ◌∷◌}
 
--- a bucket, up to the one after the last line's start, begins at a sector
+-- the first sector of a bucket, up to the one after the last line's start, fits 64 bits
 begins_at : (end shift bucket : ℕ) → end ≤ 2 ^ 50 → shift < 64 → bucket < end / 2 ^ shift + 2 → bucket * 2 ^ shift + 1 < 2 ^ 64
 begins_at end shift bucket small short within =
     let next : bucket * 2 ^ shift ≤ (end / 2 ^ shift + 1) * 2 ^ shift = mul-le-mul_right (2 ^ shift) (omega (arith, within)) in

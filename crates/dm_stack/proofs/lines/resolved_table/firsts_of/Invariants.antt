@@ -1,4 +1,4 @@
--- the line of an index starts at the first sector of the next bucket or before it, and no bucket so far begins in a later one
+-- the line at `index` starts at the next bucket's first sector or before, and the lines of the buckets so far come no later
 use Rattle.dm_stack.proofs.Prelude.{ℕ, get_or, length, AreFirsts, IsStartOf, StartsBy}
 use Rattle.dm_stack.proofs.lines.resolved_table.firsts_of.Given as goal
 use Rattle.std.specs.Prelude.{◌+◌, ◌-◌, ◌*◌, ◌^◌, ◌<◌, ◌≤◌}

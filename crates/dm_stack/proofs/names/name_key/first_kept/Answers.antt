@@ -4,7 +4,7 @@ use Rattle.dm_stack.proofs.names.KeyLemmas.{and_kept}
 use Rattle.dm_stack.proofs.names.name_key.first_kept.Goals as goal
 use Rattle.std.specs.Prelude.{◌≡◌, ◌-◌, ◌<◌, ◌++◌}
 
--- so it is of each length
+-- the mask for this length keeps so many bytes and clears the others
 abbrev is_kept : ℕ → Bool
 is_kept len = bytes_eq (slice_range KEPT (16 - len) (32 - len)) (replicate len 255 ++ replicate (16 - len) 0)
 

@@ -5,7 +5,7 @@ use lib.Lanes.{mask_l, top, zip2}
 use Rattle.dm_table.proofs.MarkLemmas.{mark_within}
 use Rattle.dm_stack.proofs.names.name_key.first_space.Goals as goal
 
--- the lanes that are spaces, as bits
+-- a bit for each of the sixteen bytes, set if the byte is a space
 abbrev bits_of : List ℕ → ℕ
 bits_of array = mask_l (map (top 7) (zip2 (λ a b. cond (nat_eq a b) 255 0) array (replicate 16 32))) % 2 ^ 64
 
@@ -13,7 +13,7 @@ spaces_are : (array : List ℕ) → length array ≡ 16 → bits_of array ≡ ma
 spaces_are array long =
     cc (tops_compared w8 nat_eq array (replicate 16 32), zip2_splat nat_eq array 16 32 long, mask_l-mod (map (λ x. nat_eq x 32) array) 64 (omega (arith, length-map array (λ x. nat_eq x 32), long)))
 
--- the first of them
+-- the lowest bit set is the first space
 first_is : (array : List ℕ) (at : ℕ) → length array ≡ 16 → (bits_of array ≡ 0 → ⊥) → at ≡ count_trailing_zeros 64 (bits_of array) → (at < 16) × (get_or array at 0 ≡ 32)
 first_is array at long others is =
     let bits = spaces_are array long in

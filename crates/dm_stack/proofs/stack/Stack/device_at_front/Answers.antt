@@ -4,7 +4,7 @@ use Rattle.dm_stack.proofs.stack.Stack.device_at_front.Goals as goal
 use Rattle.dm_stack.proofs.stack.Stack.device_at_front.Goals.{In_ok-index}
 use Rattle.std.specs.Prelude.{◌≡◌}
 
--- the device that was found
+-- the device found is the one with the name at the front
 device_is : (c : In_ok-index) → position (λ device. is_same device.name (take c.in_ok-index.len c.args.text.now)) c.self.inside.devices ≡ Some c.in_ok-index.index
 device_is c =
     sym (position-map (λ device. device.name) (λ other. is_same other (take c.in_ok-index.len c.args.text.now)) c.self.inside.devices)

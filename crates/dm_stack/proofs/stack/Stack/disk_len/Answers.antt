@@ -3,7 +3,7 @@ use Rattle.dm_stack.proofs.SoundLines.{disk_some, disk_small}
 use Rattle.dm_stack.proofs.stack.Stack.disk_len.Goals as goal
 use Rattle.std.specs.Prelude.{◌≡◌, ◌<◌}
 
--- the disk that was read is the one of the id
+-- the disk read is the one with this id
 disk_read : (c : goal.After-index-as_slice-index) → slice_get c.self.inside.disks c.args.disk ≡ Some c.index-as_slice-index.result
 disk_read c =
     let disks = c.self.inside.disks in
@@ -13,7 +13,7 @@ disk_read c =
     let is = rw c.index.ensures at there in
     slice_get_read disks (length disks) c.args.disk disk refl within is
 
--- a disk of a sound stack has sectors
+-- a disk of a sound stack has at least one sector
 pub returns-clause-size : goal.returns-clause-size
 returns-clause-size c =
     let disk = c.index-as_slice-index.result in

@@ -3,7 +3,7 @@ use Rattle.dm_stack.proofs.LineSearchLemmas.{few_digits, more-halved}
 use Rattle.dm_map.proofs.state.run_taken.search.begun_by.Goals as goal
 use Rattle.std.specs.Prelude.{◌≡◌, ◌+◌, ◌-◌, ◌*◌, ◌^◌, ◌≤◌}
 
--- each comparison leaves at most half of the runs to compare, and the next one is one digit more
+-- if `all` of `total` is left after k halvings, `half` of that is left after k + 1
 halved : (k half all total : ℕ) → 2 * half ≤ all → 2 ^ k * all ≤ total → 2 ^ (k + 1) * half ≤ total
 halved k half all total halves within = let less = more-halved k half all (total + 1) halves (omega (arith, within)) in omega (arith, less)
 

@@ -1,4 +1,4 @@
--- the runs before an index begin at the chunk or before it, those from another index on after it; each comparison halves what lies between
+-- runs before `low` start at the chunk or before it, runs from `high` on start after it, and each comparison halves what is between
 use Rattle.dm_map.proofs.Prelude.{length, binary_digits, run_at}
 use Rattle.dm_map.proofs.state.run_taken.search.begun_by.Given as goal
 use Rattle.std.specs.Prelude.{◌+◌, ◌-◌, ◌*◌, ◌^◌, ◌<◌, ◌≤◌}

@@ -13,7 +13,7 @@ loop-bit-init c =
       few = omega arith;
     }
 
--- the fork that was read on the way
+-- the node that was read on the way is this fork
 fork_is : (c : In-Fork) → node_at c.args.self.now.links.items c.loop-bit.at ≡ Fork c.in-Fork.bit c.in-Fork.pair
 fork_is c =
     node_read c.args.self.now.links.items c.loop-bit.at c.index.result.now c.node.result c.loop-bit.invariant.within c.index.ensures c.node.ensures ∙ c.in-Fork.is

@@ -1,4 +1,4 @@
--- this many steps from the slot
+-- `at` is where the chunk's way is after `tested` steps from its slot
 use Rattle.dm_map.proofs.Prelude.{length, slot_of, way}
 use Rattle.dm_map.proofs.state.trie_taken.TrieTaken.end_of.Given as goal
 use Rattle.std.specs.Prelude.{◌≡◌, ◌-◌, ◌<◌, ◌≤◌}

@@ -6,7 +6,7 @@ use Rattle.dm_map.proofs.state.trie_taken.TrieTaken.part.Goals.{After-index-ther
 use Rattle.dm_map.proofs.state.trie_taken.TrieTaken.part.Goals as goal
 use Rattle.std.specs.Prelude.{◌≡◌, ◌+◌, ◌^◌, ◌<◌, ◌∷◌, ◌++◌}
 
--- the way of the chunk ends at the number of the other one, which was read
+-- the chunk's way ends at the number of the other chunk
 ends_at_other : (c : After-index-there) → last_node c.args.self.now c.args.chunk ≡ Number c.args.other
 ends_at_other c = rw c.requires.at at c.requires.other
 
@@ -16,7 +16,7 @@ other_there c = number_within c.args.self.now c.args.chunk c.args.other (ends_at
 other_read : (c : After-index-there) → c.index-there.result.now ≡ get_or c.args.self.now.chunks.items c.args.other 0
 other_read c = get_or_read c.args.self.now.chunks.items c.args.other c.index-there.result.now (other_there c) c.index-there.ensures 0
 
--- the lowest bit in which the two differ
+-- the lowest bit in which the two chunks differ
 abbrev lowest : After-index-there → ℕ
 lowest c = trailing_zeros w64 (bit_xor c.index-there.result.now c.args.chunk)
 

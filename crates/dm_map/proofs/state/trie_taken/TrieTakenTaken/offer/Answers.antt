@@ -4,7 +4,7 @@ use Rattle.dm_map.proofs.state.trie_taken.TrieTakenTaken.offer.Goals.{After-node
 use Rattle.dm_map.proofs.state.trie_taken.TrieTakenTaken.offer.Goals as goal
 use Rattle.std.specs.Prelude.{◌≡◌}
 
--- the node at which the way of the chunk ends was read
+-- the node that was read is the one at which the chunk's way ends
 last : (c : After-node) → last_node c.args.self.now c.args.chunk ≡ c.node.result
 last c = last_read c.args.self.now c.args.chunk _ _ _ c.end_of-at.ensures.at c.index.ensures c.node.ensures
 
