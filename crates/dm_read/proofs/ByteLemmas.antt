@@ -45,7 +45,7 @@ pub none_left : (sectors : ℕ → Result (List ℕ) ByteFault) (from : ℕ) →
 unfolding bytes_of
 none_left sectors from = refl
 
--- ---- what was written of them
+-- ---- parts of a reading that were written
 
 -- if writing the next part fails, what was written is a proper prefix of all bytes
 pub part_cut : {E : Type 0} (old mid new : OutputPast) (whole next rest : Reading) (first : List ℕ) (fault : E) → HasWritten old mid 0 → whole ≡ after (written_since old mid) next → next ≡ after first rest

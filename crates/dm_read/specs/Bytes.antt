@@ -4,7 +4,7 @@ use Rattle.dm_stack.specs.declared.id.Lower.TheVariants.{Device}
 use Rattle.dm_store.specs.declared.fault.SectorFault.{SectorFault}
 use Rattle.std.specs.Prelude.{◌≡◌, ◌++◌}
 
--- ---- a sector
+-- ---- one sector
 
 -- the bytes of a sector of zeros
 abbrev pub zeros : List ℕ
@@ -25,7 +25,7 @@ unit_bytes disks unit = Err Error
 abbrev pub device_bytes : Description → State → DiskContents → (device sector : ℕ) → Result (List ℕ) ByteFault
 device_bytes stack state disks device sector = unit_bytes disks (read stack state (Device device) sector)
 
--- ---- sectors in a row
+-- ---- consecutive sectors
 
 -- the bytes of consecutive sectors up to the first that has none, and that sector, if there is one
 pub record Reading : Type 0 where
@@ -46,7 +46,7 @@ unfoldable pub bytes_of : (ℕ → Result (List ℕ) ByteFault) → (sector len 
 bytes_of sectors sector zero = record { bytes = []; stop = None }
 bytes_of sectors sector (suc len) = and_then (sectors sector) sector (bytes_of sectors (suc sector) len)
 
--- ---- what is written
+-- ---- writing a reading
 
 -- `text` is what was written of a reading, with this result: all of its bytes, and where it stops; or, if the output failed, a proper prefix of them
 abbrev pub IsWritten : {F : Type 0} → Reading → (text : List ℕ) → Result (Option Stop) F → Type 0

@@ -9,7 +9,7 @@ use Rattle.dmremap.specs.declared.exit.Refusal.TheVariants as refusals
 use Rattle.dmremap.specs.declared.status.TheConstants.{STATUS_BAD_REQUEST, STATUS_DONE, STATUS_MEMORY, STATUS_READ_FAULT, STATUS_REFUSED, STATUS_STOPPED, STATUS_WRITE_FAULT}
 use Rattle.std.specs.Prelude.{◌≡◌, ◌≢◌}
 
--- ---- the status
+-- ---- exit statuses
 
 -- the exit status of a load that is refused
 abbrev pub load_status : LoadKind → ℕ
@@ -50,7 +50,7 @@ exit_status (exits.Stopped stop) = STATUS_STOPPED
 abbrev pub IsPlain : Exit → Type 0
 IsPlain exit = (exit_status exit ≢ STATUS_WRITE_FAULT) × (exit_status exit ≢ STATUS_MEMORY)
 
--- ---- the message
+-- ---- exit messages
 
 -- the message of a refused command
 abbrev pub refusal_message : Refusal → List ℕ
@@ -72,7 +72,7 @@ exit_message (exits.NotTop number) = refused_request number (codes "not top")
 exit_message exits.Memory = memory_message
 exit_message (exits.Stopped stop) = stop_message stop
 
--- ---- the output
+-- ---- the output at an exit
 
 -- the command was refused, and so wrote nothing
 abbrev pub is_refused : Exit → Bool

@@ -4,7 +4,7 @@ use Rattle.clap.specs.Words.{Text}
 use Rattle.dmremap.specs.declared.messages.TheConstants.{FIRST_ENTRIES, LATER_ENTRIES}
 use Rattle.std.specs.Prelude.{◌∷◌, ◌&&◌, ◌||◌, if◌then◌else◌}
 
--- ---- the word that is meant
+-- ---- the word and the part of a message
 
 -- a text split at the first occurrence of `mark`: what comes before it and what comes after it; None if `mark` doesn't occur
 unfoldable pub cut_at : (mark : Text) → Text → Option (Text × Text)
@@ -28,7 +28,7 @@ word_in message = before (codes " at ") (after (codes ": ") (after (codes ": ") 
 abbrev pub part_in : Text → Text
 part_in message = before (codes " ") (before (codes ": ") (after (codes "dmremap: ") message))
 
--- ---- what is said of it
+-- ---- the manual's entries
 
 -- an entry of the manual: the two parts whose messages it explains, the word that it is about, and its text
 abbrev pub Entry : Type 0

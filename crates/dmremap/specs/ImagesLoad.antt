@@ -16,7 +16,7 @@ use Rattle.dmremap.specs.Load.{Load, RefusedBy, SoundAs}
 use Rattle.dmremap.specs.Opening.{Loaded, Opening, Stops}
 use Rattle.std.specs.Prelude.{◌≡◌, ◌≢◌, ◌⊎◌, ◌+◌, ◌-◌, ◌∷◌, if◌then◌else◌}
 
--- ---- what the disks of a list hold, by what images do
+-- ---- the contents of listed disks, by those of images
 
 -- the result of reading a sector of an image, as the result of reading a sector of a disk
 abbrev pub on_disk : Result (List ℕ) ReadFault → Result (List ℕ) HeadReadFault
@@ -37,7 +37,7 @@ pub record AreSeen (IsSeen : Contents → Type 0) (paths : List DiskPath) (disks
   pub seen : IsSeen held
   pub same : (disk sector : ℕ) → disks disk sector ≡ listed_disks paths held disk sector
 
--- ---- what opens a run
+-- ---- what a list of images opens
 
 -- the message about a listed disk whose head is refused
 abbrev pub disk_message : Option DiskPath → HeadFault → List ℕ
@@ -117,7 +117,7 @@ OpensBy held None opening = ⊥
 abbrev pub ImagesOpen : (paths : Delivery) → Contents → Opening → Type 0
 ImagesOpen paths held opening = OpensBy held (list_in (part_read Paths paths)) opening
 
--- ---- what a call returns
+-- ---- refusals
 
 -- how a disk's head refuses a run: with the message of its fault, or because memory ran out
 abbrev pub IsStoppedBy : Option DiskPath → HeadFault → Refusal → Type 0
@@ -130,7 +130,7 @@ abbrev pub IsUnowned : List DiskPath → OwnedFault → Refusal → Type 0
 IsUnowned paths (owned.Disk disk fault) why = IsStoppedBy (slice_get paths disk) (by_text fault) why
 IsUnowned paths (owned.Load fault) why = why ≡ refusals.Load fault
 
--- ---- what was asked for
+-- ---- how PATHS and images were read
 
 -- images are read only if PATHS delivered a list of paths
 abbrev pub AreImagesUsed : {X : Type 0} → (paths : Delivery) → (old new : X) → Type 0

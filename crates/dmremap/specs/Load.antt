@@ -12,7 +12,7 @@ pub record Loads (Gives : Load → Type 0) (result : Result Description LoadFaul
   pub sound : IfOk result (λ stack. Gives (SoundAs stack))
   pub refused : IfErr result (λ fault. fault.kind ≢ Memory → Gives (RefusedBy fault))
 
--- ---- a text of devices in a form, and a disk list
+-- ---- a text of devices and a disk list
 
 -- the text describes these devices, in the given form
 abbrev pub DescribesDevices : TableForm → List ℕ → List DeviceSpec → Type 0
@@ -49,7 +49,7 @@ TextPartsGive form (TextOf source) (TextOf list) load = TextsGive form source li
 TextPartsGive form (TextOf source) Unread load = ⊥
 TextPartsGive form Unread list load = ⊥
 
--- ---- a text of LVM2 metadata
+-- ---- an LVM2 text
 
 -- the text describes a volume group of these devices and disks, which are not checked yet
 abbrev pub DescribesGroupAs : List ℕ → Description → Type 0
@@ -68,7 +68,7 @@ MetadataPartGives (Refuses fault) load = load ≡ RefusedBy fault
 MetadataPartGives (TextOf source) load = MetadataGives source load
 MetadataPartGives Unread load = ⊥
 
--- ---- every format
+-- ---- a load in any format
 
 -- the outcomes of loading what the source and the disk list delivered, by format; an LVM2 text has no disk list
 abbrev pub PartsGive : Format → Delivery → Delivery → Load → Type 0

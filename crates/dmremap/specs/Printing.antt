@@ -6,7 +6,7 @@ use Rattle.dmremap.specs.declared.exit.Exit.TheVariants as exits
 use Rattle.dmremap.specs.declared.exit.Refusal.TheVariants as refusals
 use Rattle.std.specs.Prelude.{◌≡◌, ◌∷◌, ◌++◌}
 
--- ---- what there is to print
+-- ---- texts to print
 
 -- a text to print, or why the command is refused
 pub data Said : Type 0 where

@@ -12,7 +12,7 @@ use Rattle.dmremap.specs.StoredStart.{images_in, start_at}
 use Rattle.dmremap.specs.Whole.{Begins, Refuses, Start, Unsettled}
 use Rattle.std.specs.Prelude.{◌≡◌, ◌≢◌, ◌+◌, ◌-◌, ◌<◌, ◌≤◌, if◌then◌else◌}
 
--- ---- the sectors that are asked for
+-- ---- the range of sectors to read
 
 -- `count`, if that many sectors from `from` on lie in a device of `len` sectors
 abbrev pub within : (from count len : ℕ) → Option ℕ
@@ -38,7 +38,7 @@ pub record IsExtentOf (stack : Description) (extent : Extent) : Type 0 where
   pub inside : extent.start + extent.len ≤ device_len stack extent.device
   pub small : extent.start + extent.len ≤ MOST_LENGTH
 
--- ---- an extent
+-- ---- reading an extent
 
 -- the exit of a command that wrote sectors, all of them or up to one that has no bytes
 abbrev pub stop_exit : Option Stop → Exit
@@ -60,7 +60,7 @@ answer_from (Begins state) stack disks extent = Some (reading_answer (bytes_of (
 answer_from (Refuses message) stack disks extent = Some (Tells (refused_by message))
 answer_from Unsettled stack disks extent = None
 
--- ---- a stack
+-- ---- reading a range of a stack
 
 -- the answer of reading an extent of a stack in the state that its exception stores hold, or the refusal of the extent
 abbrev pub extent_answer : Description → DiskContents → Result Extent Refusal → Option Answer

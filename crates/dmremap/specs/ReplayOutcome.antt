@@ -72,7 +72,7 @@ HasStopped stack start exits.Memory asked requests text = StopsAt (IsOfTop stack
 HasStopped stack start (exits.Ended endings.WriteFault) asked requests text = IsCutReplay stack start asked requests text
 HasStopped stack start exit asked requests text = ⊥
 
--- ---- all requests
+-- ---- a whole replay
 
 -- all requests up to their end were answered with this text, and they ended as `e`
 pub record IsWhole (stack : Description) (start : State) (requests : Requests) (text : List ℕ) (e : Ending) : Type 0 where

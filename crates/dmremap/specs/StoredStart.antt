@@ -12,7 +12,7 @@ use Rattle.dmremap.specs.Whole as start
 use Rattle.dmremap.specs.Whole.{Start}
 use Rattle.std.specs.Prelude.{◌≡◌, ◌≢◌, ◌⊎◌}
 
--- ---- PATHS
+-- ---- the list of paths
 
 -- where the disks of a stack lie in images, by a list of paths, or the fault of the list
 abbrev pub images_by : Description → Result (List DiskPath) LoadFault → Result (List (Option Place)) LoadFault
@@ -25,7 +25,7 @@ images_in stack (TextOf text) = Some (images_by stack (read_paths text))
 images_in stack (Refuses fault) = Some (Err fault)
 images_in stack Unread = None
 
--- ---- the stores
+-- ---- exception stores
 
 -- how a stack starts: in the state that its exception stores hold, or refused with the message about the first bad store
 abbrev pub start_at : Description → Result State StoreRefusal → Start
@@ -43,7 +43,7 @@ abbrev pub stored_start : (paths : Option Delivery) → Contents → Description
 stored_start (Some paths) held stack = start_over held stack (images_in stack (part_read Paths paths))
 stored_start None held stack = start.fresh_start stack
 
--- ---- what is asked for when
+-- ---- the order of reads
 
 -- images are read only if PATHS says where the disks of the stack lie
 abbrev pub AreImagesAsked : {X : Type 0} → Description → (paths : Option Delivery) → (old new : X) → Type 0

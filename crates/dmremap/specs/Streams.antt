@@ -17,7 +17,7 @@ moved past old new = record { old = past old; new = past new }
 abbrev pub IsUnmoved : {Past : Type 0} → Moved Past → Type 0
 IsUnmoved stream = stream.new ≡ stream.old
 
--- ---- by the status
+-- ---- streams, by the exit status
 
 -- how the requests were read, by the command's exit status
 pub record RequestsRead (status : ℕ) (old new : InputPast) : Type 0 where
@@ -57,7 +57,7 @@ pub record StreamsLeft (status : ℕ) (requests : Moved InputPast) (output messa
 abbrev pub IsOut : (requests : Moved InputPast) → (output messages : Moved OutputPast) → Type 0
 IsOut requests output messages = IsUnmoved output × IsUnmoved requests × IsTold memory_message messages.old messages.new
 
--- ---- by the exit
+-- ---- streams, by the exit
 
 -- the command exits with the status and the message of `exit`
 pub record Exits (exit : Exit) (result : ℕ) (old new : OutputPast) : Type 0 where

@@ -142,7 +142,7 @@ command_line parsers = with_commands (with_rule bare_app version_rule)
 abbrev pub HasApp : {E : Type 0} → App → Result Command E → Type 0
 HasApp app result = IfOk result (λ command. app_of command ≡ app)
 
--- ---- what words say
+-- ---- from clap's matches to a job
 
 -- whether the flag was given: its text is `true` if it was
 abbrev pub has_flag : Text → List Row → Bool
@@ -235,7 +235,7 @@ job_in command rows =
 abbrev pub said_by : Option (Text × List Row) → Option JobWords
 said_by met = option_and_then (λ m. job_in m.0 m.1) met
 
--- ---- what words give
+-- ---- the job or the fault of words
 
 -- one of the words before the first `--` is a lone hyphen
 abbrev pub lone_hyphen_in : List Text → Bool

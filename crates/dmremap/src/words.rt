@@ -50,7 +50,7 @@ const FORMATS: &[&str] = &["lvm", "concise", "table", "images"];
 
 const IMAGES: &[&str] = &["images"];
 
-// ---- what clap found, and the job that this gives
+// ---- from clap's matches to a job
 
 /// The text of a word; None if it wasn't given.
 fn text_of<'a>(found: &ArgMatches<'a>, id: &str) -> Option<&'a str>
