@@ -62,7 +62,7 @@ pub of_ground : (disks : DiskContents) (reads : ℕ → BlockUnit) (ground : Gro
 of_ground disks reads ground sector done n len block few units each i less =
     at_ground disks reads ground sector done len i (omega (arith, less, few)) units ∙ each i less
 
--- what the counts of a filled block mean, by whether it stopped at a fault
+-- what the counts of a filled block mean, with a fault and without one
 pub fewer_at : (asked : ℕ) (filled : Filled) (fault : ByteFault) → filled.fault ≡ Some fault → AreCounted asked filled → filled.count < asked
 fewer_at asked filled fault is counted = subst (λ (f : Option ByteFault). IfSome f (λ fault. filled.count < asked)) is counted.fewer
 

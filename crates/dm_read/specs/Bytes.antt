@@ -1,4 +1,4 @@
--- The bytes of a device's sectors, by what its reads map to and by what disks hold.
+-- The bytes of a device's sectors: what disks hold where its reads map to.
 use Rattle.dm_read.specs.Base.{ℕ, zero, suc, List, [], replicate, Option, Some, None, Result, Ok, Err, IsCutShort, Description, BlockUnit, ReadOf, Zeros, State, read, DiskContents, ByteFault, Error, Unread, Stop}
 use Rattle.dm_stack.specs.declared.id.Lower.TheVariants.{Device}
 use Rattle.dm_store.specs.declared.fault.SectorFault.{SectorFault}

@@ -1,6 +1,6 @@
 //! The bytes of devices, read from images of disks.
 //!
-//! `specs/Bytes.antt` defines the bytes of a device's sector, by what its read maps to and by what disks hold, and
+//! `specs/Bytes.antt` defines the bytes of a device's sector, given what its read maps to and what disks hold, and
 //! those of consecutive sectors. `write_sectors` writes them.
 #![tactic(auto)]
 

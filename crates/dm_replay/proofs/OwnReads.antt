@@ -1,5 +1,4 @@
--- What a read of a top device answers if no claims clash: what the device would hold if it were alone, or an error; and no error if the stack can't lose
--- anything.
+-- What a read of a top device answers if no claims clash: what the device would hold alone, or an error; no error if the stack can't lose anything.
 use Rattle.dm_replay.proofs.Prelude.{inl, inr, ℕ, zero, suc, Bool, true, false, cond, List, [], Option, Some, None, nat_lt, replicate, refl, ap, arith, le-ltb, Device, IsTidy, IsTop, Description, device_len, AreAlwaysExact, AreNeverLost, IsAmple, IsIntact, Stays, content, value_read, AreAlone, IsOwnAt, Rows, request_step, sector_step, read, IsFitting, State, keep, steps, BlockUnit, Fails, IsRead, Sector, Nothing, Fault, is_read, Value, Asked, World, asked_answers, world_after, AreOfTops, Answer, Gives, Failed, Values, played_answers}
 use Rattle.dm_table.specs.declared.requests.request.Op.TheVariants as ops
 use Rattle.dm_stack.specs.declared.checks.graph.TheConstants.{MOST_DEPTH}

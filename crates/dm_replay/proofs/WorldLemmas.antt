@@ -97,7 +97,7 @@ few_whole stack start mapper all request device units law tidy fits each top of 
     let own = own_after stack start all law tidy fits each in let before = world_after stack start all in
     rw (of, state_is) (law.few _ request.op before.state device request.start request.len units before.values _ tidy top own)
 
--- what is known of the whole sectors of a halted request, by the next sector to answer
+-- what the next sector to answer implies about the whole sectors of a halted request
 pub record AreWhole (mapper : MapperView) (request : Request) (device units whole : ℕ) : Type 0 where
   pub few : whole ≤ request.len
   pub again : (request_step mapper.stack request.op device request.start whole mapper.state).state ≡ left_state mapper.stack (Some units) (with_values (kept_request request device (Some units))) mapper.state

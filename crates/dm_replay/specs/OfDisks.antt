@@ -1,4 +1,4 @@
--- Units, values and answers that name only the disks of a stack, by how many disks it has.
+-- Units, values and answers that name only disks below a count, the number of disks of a stack.
 use Rattle.dm_replay.specs.Base.{ℕ, List, AllByRecursion, BlockUnit, ReadOf, CopyOf, Value, ValueRun}
 use Rattle.dm_replay.specs.declared.value.Value.TheVariants as value
 use Rattle.dm_replay.specs.declared.value_run.ValueRun.TheVariants as runs

@@ -54,8 +54,8 @@ IsNotBegun faults.Memory of = Unit {0}
 IsNotBegun faults.NotTop of = ⊥
 IsNotBegun faults.Stopped of = ⊥
 
--- a request was answered with these runs, after those before it. A read answers its device's row, or errors; it answers without errors if the stack can't lose
--- anything, no snapshot was lost at the start, and the read ends within the device. The request is added to those that were accepted
+-- a request was answered with these runs, after those before it. A read answers its device's row, or errors; if the stack can't lose anything, no snapshot was lost at
+-- the start and the read ends within the device, it answers without errors. The request is added to those that were accepted
 pub record IsAnswered (old new : Replaying) (request : Asked) (runs : List ValueRun) : Type 0 where
   pub answers : AreRunsOf (length old.stack.disks) (asked_answers old.stack (world_after old.stack old.start old.asked) request) runs
   pub own : request.op ≡ Read → AreOfRow (rows_after old.stack old.start old.asked) request.device request.start (flat runs)

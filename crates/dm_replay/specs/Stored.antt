@@ -1,4 +1,4 @@
--- What was stored in the sectors of a disk, as ranges in a map by their first sectors.
+-- What was stored in the sectors of a disk, as a map from first sectors to ranges.
 use Rattle.dm_replay.specs.Base.{ℕ, nat_le, nat_lt, List, [], Option, Some, None, get_or, nat_cmp, BTreeMap, IsOrdered, get, Value}
 use Rattle.dm_replay.specs.declared.range_values.RangeValues.{RangeValues}
 use Rattle.dm_replay.specs.declared.value.Value.TheVariants as value
@@ -19,7 +19,7 @@ abbrev pub held : (disk : ℕ) → Option Value → (sector : ℕ) → Value
 held disk None sector = value.Old disk sector
 held disk (Some stored) sector = stored
 
--- the values of all sectors, by the ranges stored on each disk
+-- the values of all sectors, given the ranges stored on each disk
 abbrev pub values_of : List (List (ℕ × RangeValues)) → Values
 values_of disks disk sector = held disk (stored_in (get_or disks disk []) sector) sector
 

@@ -42,8 +42,7 @@ impl<'s> Player<'s> {
         }
     }
 
-    /// Sets the number of the next request, and the first sector of its device to be answered. Removes earlier
-    /// answers.
+    /// Sets the number of the next request, and the first sector of its device to be answered. Removes earlier answers.
     pub(crate) fn begin(&mut self, alloc: Global, number: u64, first: u64)
         ensures playing { self.new.playing
             ≡ record { values = self.old.playing.values; number = number; next = first; runs = [] } }

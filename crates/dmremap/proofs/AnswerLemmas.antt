@@ -87,7 +87,7 @@ does_more more text (exits.Refused refusal) did = (did.0, λ other. more (Tells 
 does_more more text (exits.Ended endings.WriteFault) did = (did.0, did.1, more (Writes did.0 did.1) did.2, did.3)
 does_more more text exit did = more (Writes text (Some (end_of exit))) did
 
--- what a command did over an opened stack it did as a whole command
+-- what a command did for the stack that it opened is what the whole command did
 pub opened_does : (Opens : Opening → Type 0) (Makes : Description → Answer → Type 0) (stack : Description) (text : List ℕ) (exit : Exit) → Opens (Loaded (SoundAs stack)) → Does (Makes stack) text exit → Does (Opened Opens Makes) text exit
 opened_does Opens Makes stack text exit opens = does_more {Is = Makes stack} {More = Opened Opens Makes} (λ answer makes. record { opening = Loaded (SoundAs stack); opens = opens; makes = makes }) text exit
 

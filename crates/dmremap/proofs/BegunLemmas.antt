@@ -28,7 +28,7 @@ pub begun_before : (stack : Description) (before : Option Delivery) (start : Sta
 begun_before stack before start (refusals.Earlier fault) begun = absurd (never_done fault begun.2)
 begun_before stack before start why begun = begun
 
--- earlier requests played from the start's state
+-- earlier requests end alike in equal states; below, they leave the same state
 pub begun_ending : (stack : Description) (before : Option Delivery) (state reached : State) (ending : Ending) → reached ≡ state → (earlier_from reached stack before).ending ≡ Some ending → (earlier_from state stack before).ending ≡ Some ending
 begun_ending stack before state reached ending same ends = rw same at ends
 

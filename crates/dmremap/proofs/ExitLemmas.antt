@@ -42,7 +42,7 @@ write_fault_is (exits.Refused refusal) five = absurd (no_write_fault refusal fiv
 write_fault_is (exits.Ended endings.WriteFault) five = refl
 write_fault_is exit five = absurd (omega (arith, five))
 
--- an exit's message is what its status allows
+-- the message of an exit is one that its status allows
 pub exits_told : {exit : Exit} {result : ℕ} {old new : OutputPast} → Exits exit result old new → MessagesTold result old new
 exits_told {exit = exit} is = record { message = exit_message exit; told = is.told; write_message = λ five. ap exit_message (write_fault_is exit (sym is.is ∙ five)) }
 
@@ -182,7 +182,7 @@ three_met old new ending three met = absurd (omega (arith, three))
 pub never_one : (ending : Ending) → ending_status ending ≡ STATUS_REFUSED → ⊥
 never_one ending one = never_refused (exits.Ended ending) refl one
 
--- how requests were read, by how their run ended
+-- what the ending of a run implies about how its requests were read
 pub ran_requests : (ending : Ending) (status : ℕ) (old new : InputPast) → status ≡ ending_status ending → IsReadOn old new
     → HasMet ending old new → RequestsRead status old new
 ran_requests ending status old new is read_on met = record {
@@ -208,7 +208,7 @@ unasked_requests refusal status old new is read_on same = record {
   unasked = λ _. same;
 }
 
--- how requests were read, by the exit before the output was closed
+-- what the exit before the output was closed implies about how requests were read
 asked_read : (old new : InputPast) (exit : Exit) → AskedBy old new exit → RequestsRead (exit_status exit) old new
 asked_read old new (exits.Refused refusal) asked = unasked_requests refusal _ old new refl asked.read_on (asked.unasked refl)
 asked_read old new (exits.Ended ending) asked = ran_requests ending _ old new refl asked.read_on asked.met
@@ -234,7 +234,7 @@ asked_read old new (exits.Stopped stop) asked = record {
   unasked = λ one. absurd (omega (arith, one));
 }
 
--- how requests were read, by the exit after the output was closed and its flush may have failed
+-- what the exit after the output was closed, perhaps with a failed flush, implies about how requests were read
 pub closed_requests : (old new : InputPast) (before after : Exit) (f0 f1 status : ℕ) → EndsAs before f0 f1 after → AskedBy old new before → status ≡ exit_status after → RequestsRead status old new
 closed_requests old new before after f0 f1 status ends_so asked is =
     rw is (go ends_so)

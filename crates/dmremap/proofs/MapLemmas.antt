@@ -90,7 +90,7 @@ ran_maps start begun stack flag before reached left ending {requests} {output} {
         let closed = rw reaches at (ran.output.whole no_fault) in
         Wrote outcome.output (end_of (exits.Ended ending)) (gives ∙ ap (λ (e : Option Ending). Some (Writes outcome.output (end e))) same) (is, told.told) (λ five. no_fault (five_is ending (sym is ∙ five))) whole closed.1
 
--- what a run wrote and flushed, by its exit status
+-- what the exit status implies about what a run wrote and flushed
 ran_output : (ending : Ending) (status : ℕ) (outcome : Outcome) (left : State) (old new : OutputPast) → status ≡ ending_status ending → HasRun old new outcome left ending
     → OutputWritten status old new
 ran_output ending status outcome left old new is ran = record {

@@ -4,7 +4,7 @@ use Rattle.dmremap.specs.declared.parts.Parts.{Parts}
 use Rattle.dmremap.specs.declared.prepared.Prepared.{Prepared}
 use Rattle.std.specs.Prelude.{◌≡◌}
 
--- if one property of a refusal implies another, it does so in a result
+-- if every refusal with one property has another, so does the refusal in an error result
 pub refused_more : {T : Type 0} {P Q : Refusal → Type 0} (result : Result T Refusal) → ((refusal : Refusal) → P refusal → Q refusal) → IfErr result P → IfErr result Q
 refused_more (Ok value) more told = tt
 refused_more (Err refusal) more told = more refusal told

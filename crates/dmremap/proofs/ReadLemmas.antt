@@ -1,4 +1,4 @@
--- What `read` answers, by what was written of a reading and by how the run began.
+-- What `read` answers: it depends on what was written of a reading and on how the run began.
 use Rattle.dmremap.proofs.Prelude.{Bool, true, false, ℕ, List, Option, Some, None, Result, Ok, Err, inl, inr, refl, sym, ap, subst, ◌∙◌, ap₂, arith, le-leb, lt-leb, option_map_or, IfErr, IfOk, codes, option_and_then, position, unwrap_or, digits_value, LoadFault, Paths, DiskPath, Delivery, InputPast, fault_of, part_read, Description, device_len, is_same, State, images_of, DiskContents, Place, IsWritten, Reading, bytes_of, device_bytes, Answer, Tells, Writes, end_of, Exit, Refusal, Does, exit_status, failed_writes, refusal_status, list_in, delivered_if, JobWords, RangeWords, AreSettled, answer_from, count_in, extent_at, extent_of, places_in, reading_answer, stop_exit, within, written_exit, AreImagesAsked, IsBegunAt, AskedBy, Begins, Start, last_of, number_of, range_at, range_job, read_job, sectors_parser}
 use Rattle.std.specs.Prelude.{◌≡◌, ◌≢◌, ◌⊎◌, ◌+◌, ◌-◌, ◌<◌, ◌≤◌, ◌^◌}
 use Rattle.std.specs.Str.Parse.{IsNumeral, without_leading_plus}

@@ -8,7 +8,7 @@ use Rattle.dmremap.specs.declared.status.TheConstants.{STATUS_MEMORY}
 use Rattle.dmremap.proofs.AnswerLemmas.{end_refused}
 use Rattle.std.specs.Prelude.{◌≡◌, ◌≢◌}
 
--- the answer settled by the heads of the listed disks
+-- the heads of the listed disks settle the answer
 text_said : (paths : Delivery) (held : Contents) (listed : List DiskPath) (heads : Result AllSaid HeadRefusal) → list_in (part_read Paths paths) ≡ Some (Ok listed) → heads_of (listed_disks listed held) (length listed) ≡ heads → images_text paths held ≡ Some (heads_text listed heads)
 text_said paths held listed heads is said = rw (is, said) refl
 

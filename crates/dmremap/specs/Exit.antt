@@ -31,7 +31,7 @@ refusal_status refusal = STATUS_REFUSED
 abbrev pub IsOutOfMemory : Refusal → Type 0
 IsOutOfMemory refusal = refusal_status refusal ≡ STATUS_MEMORY
 
--- the exit status of a run, by how the run ended
+-- the exit status of a run that ended like this
 abbrev pub ending_status : Ending → ℕ
 ending_status endings.Done = STATUS_DONE
 ending_status (endings.BadRequest number word) = STATUS_BAD_REQUEST

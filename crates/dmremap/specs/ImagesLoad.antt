@@ -23,7 +23,7 @@ abbrev pub on_disk : Result (List ℕ) ReadFault → Result (List ℕ) HeadReadF
 on_disk (Ok bytes) = Ok bytes
 on_disk (Err fault) = Err (record {})
 
--- a disk's sectors by its path: they begin at sector `path.start` of the image; without a path every read fails
+-- the sectors of a disk at this path: they begin at sector `path.start` of the image; without a path every read fails
 abbrev pub at_path : Contents → Option DiskPath → Sectors
 at_path held (Some path) sector = on_disk (held path.at.number path.file (path.start + sector))
 at_path held None sector = Err (record {})
@@ -75,7 +75,7 @@ HeadsOpen paths (Err refusal) opening = opening ≡ Stops (disk_message (slice_g
 abbrev pub len_of : Description → (name : List ℕ) → ℕ
 len_of stack name = option_map_or (disk_len stack) (position (λ disk. is_same disk.name name) stack.disks) 0
 
--- the first disk of a list, counting from `disk`, whose last sector by the description can't be read
+-- the first disk of a list, counting from `disk`, whose last sector, according to the description, can't be read
 unfoldable pub short_of : Description → DiskContents → (disk : ℕ) → List DiskPath → Option ℕ
 short_of stack disks disk [] = None
 short_of stack disks disk (path ∷ later) = if is_ok (disks disk (len_of stack path.disk - 1)) then short_of stack disks (disk + 1) later else Some disk

@@ -70,7 +70,7 @@ MetadataPartGives Unread load = ⊥
 
 -- ---- a load in any format
 
--- the outcomes of loading what the source and the disk list delivered, by format; an LVM2 text has no disk list
+-- the outcomes of loading what the source and the disk list delivered in this format; an LVM2 text has no disk list
 abbrev pub PartsGive : Format → Delivery → Delivery → Load → Type 0
 PartsGive Lvm source disks load = MetadataPartGives (part_read Source source) load
 PartsGive (Tables form) source disks load = TextPartsGive form (part_read Source source) (part_read Disks disks) load

@@ -15,7 +15,7 @@ abbrev pub PartsOpen : Format → (source disks : Delivery) → Opening → Type
 PartsOpen format source disks (Loaded load) = PartsGive format source disks load
 PartsOpen format source disks (Stops message) = ⊥
 
--- a command's answer by its opening: it reports a refused load or a message, and answers for a stack what `Makes` allows
+-- how a command answers once opened: it reports a refused load or a message, and for a stack it answers what `Makes` allows
 abbrev pub OpeningMakes : (Makes : Description → Answer → Type 0) → Opening → Answer → Type 0
 OpeningMakes Makes (Loaded (RefusedBy fault)) answer = answer ≡ Tells (end_of (Refused (refusals.Load fault)))
 OpeningMakes Makes (Loaded (SoundAs stack)) answer = Makes stack answer

@@ -1,4 +1,4 @@
--- What the commands other than `map` and `metadata` answer, by their words, their opening and the delivered requests.
+-- What the commands other than `map` and `metadata` answer, given their words, their opening and the delivered requests.
 use Rattle.dmremap.specs.Base.{Bool, true, false, Option, Some, Delivery, Description, built}
 use Rattle.dmremap.specs.Answers.{Answer}
 use Rattle.dmremap.specs.Explanation.{explanation}
@@ -40,7 +40,7 @@ JobMakes (replay_words from paths) starts reads requests stack = ReplaysOver (st
 JobMakes (read_words from paths range) starts reads requests stack = λ answer. reads range stack ≡ Some answer
 JobMakes _ starts reads requests stack = λ answer. ⊥
 
--- what a job answers: by its words alone if it loads nothing, or else by the stack that it opens
+-- what a job answers: its words alone decide if it loads nothing, or else the stack that it opens
 abbrev pub JobAnswers : JobWords → (Opens : Opening → Type 0) → (starts : Description → Start) → (reads : RangeWords → Description → Option Answer) → (requests : Delivery) → Answer → Type 0
 JobAnswers (name_words parts) Opens starts reads requests = SaidBy (λ said. name_said (built parts) ≡ said)
 JobAnswers (split_words name) Opens starts reads requests = SaidBy (SplitSays name)

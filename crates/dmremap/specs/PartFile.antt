@@ -1,4 +1,4 @@
--- What is unread of a file that a load reads.
+-- The unread bytes of a file that a load reads.
 use Rattle.dmremap.specs.Base.{ℕ, List, [], Option, None, Some}
 use Rattle.dmremap.specs.declared.part_file.Stage.{Stage}
 use Rattle.dmremap.specs.declared.part_file.Stage.TheVariants.{Ended, Open, Unopened}

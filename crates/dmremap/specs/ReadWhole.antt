@@ -1,4 +1,4 @@
--- What `read` answers: the bytes of a device's sectors, by what was delivered and what images hold.
+-- What `read` answers: the bytes of a device's sectors, given what was delivered and what images hold.
 use Rattle.dmremap.specs.Base.{ℕ, List, length, Option, Some, None, Result, Ok, Err, nat_le, position, unwrap_or, option_map_or, LoadFault, Memory, Read, Paths, Delivery, fault_at, part_read, Description, device_len, is_same, Contents, DiskContents, disk_contents, Place, stored_state, Reading, bytes_of, device_bytes, Exit, Refusal}
 use Rattle.dm_stack.specs.declared.checks.limits.TheConstants.{MOST_LENGTH}
 use Rattle.dm_stream.specs.declared.runs.ending.Ending.TheVariants as endings
@@ -67,13 +67,13 @@ abbrev pub extent_answer : Description → DiskContents → Result Extent Refusa
 extent_answer stack disks (Ok extent) = answer_from (start_at stack (stored_state stack disks)) stack disks extent
 extent_answer stack disks (Err refusal) = Some (Tells (end_of (exits.Refused refusal)))
 
--- the answer of reading a range, by where the stack's disks lie; None while that isn't settled
+-- the answer of reading a range, given where the stack's disks lie; None while that isn't settled
 abbrev pub range_answer : Contents → Description → RangeWords → Option (Result (List (Option Place)) LoadFault) → Option Answer
 range_answer held stack range (Some (Ok places)) = extent_answer stack (disk_contents places held) (extent_of stack range)
 range_answer held stack range (Some (Err fault)) = Some (Tells (end_of (exits.Refused (refusals.Load fault))))
 range_answer held stack range None = None
 
--- where the disks of a stack lie, by what PATHS delivered, or a fault; a fault, too, if there is no PATHS
+-- where the disks of a stack lie, according to PATHS, or the fault of PATHS; a missing PATHS is a fault
 abbrev pub places_in : (paths : Option Delivery) → Description → Option (Result (List (Option Place)) LoadFault)
 places_in (Some paths) stack = images_in stack (part_read Paths paths)
 places_in None stack = Some (Err (fault_at Paths Read 0))

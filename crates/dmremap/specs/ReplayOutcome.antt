@@ -79,7 +79,7 @@ pub record IsWhole (stack : Description) (start : State) (requests : Requests) (
   pub ends_so : requests.ending ≡ Some e
   pub told : AreAnswered stack start [] requests.all text
 
--- what a replay wrote before its output is closed, by its exit
+-- what a replay wrote before its output is closed, depending on its exit
 abbrev pub IsPlayed : Description → (start : State) → Requests → List ℕ → Exit → Type 0
 IsPlayed stack start requests text (exits.Ended endings.Done) = IsWhole stack start requests text endings.Done
 IsPlayed stack start requests text (exits.Ended (endings.BadRequest number word)) = IsWhole stack start requests text (endings.BadRequest number word)

@@ -1,4 +1,4 @@
--- What a replay answers, by how the stack starts and by the delivered requests.
+-- What a replay answers, depending on how the stack starts and on the delivered requests.
 use Rattle.dmremap.specs.Base.{ℕ, true, List, [], None, Some, Delivery, IsClash, IsTidy, claims, Description, State, NumberedRequest, requests_of, Exit, Refused}
 use Rattle.dm_stack.specs.declared.claims.clash.Clash.{Clash}
 use Rattle.dmremap.specs.declared.exit.Refusal.TheVariants as refusals
@@ -23,7 +23,7 @@ ReplaysStack stack state requests (Writes text (Some end)) =
     IsTidy stack × (exit : Exit) × IsPlayed stack state (requests_of requests) text exit × (is_flushed exit ≡ true) × (end ≡ end_of exit)
 ReplaysStack stack state requests (Writes text None) = IsTidy stack × BeginsReplay stack state (requests_of requests).all text
 
--- what a replay answers, by how the stack starts: in a state, refused with a message, or not settled
+-- what a replay answers over a stack that starts in a state, is refused with a message, or has no settled start
 abbrev pub ReplaysOver : Start → Description → (requests : Delivery) → Answer → Type 0
 ReplaysOver (Begins state) stack requests answer = ReplaysStack stack state requests answer
 ReplaysOver (Refuses message) stack requests answer = answer ≡ Tells (refused_by message)

@@ -14,12 +14,12 @@ use Rattle.std.specs.Prelude.{◌≡◌, ◌≢◌, ◌⊎◌}
 
 -- ---- the list of paths
 
--- where the disks of a stack lie in images, by a list of paths, or the fault of the list
+-- where the disks of a stack lie in images, according to a list of paths, or the fault of the list
 abbrev pub images_by : Description → Result (List DiskPath) LoadFault → Result (List (Option Place)) LoadFault
 images_by stack (Ok paths) = images_of stack paths
 images_by stack (Err fault) = Err fault
 
--- where the disks of a stack lie in images, by what was read of PATHS; None while that isn't settled
+-- where the disks of a stack lie in images, according to PATHS; None while that isn't settled
 abbrev pub images_in : Description → PartRead → Option (Result (List (Option Place)) LoadFault)
 images_in stack (TextOf text) = Some (images_by stack (read_paths text))
 images_in stack (Refuses fault) = Some (Err fault)
@@ -32,13 +32,13 @@ abbrev pub start_at : Description → Result State StoreRefusal → Start
 start_at stack (Ok state) = start.Begins state
 start_at stack (Err refusal) = start.Refuses (store_message (name_at stack refusal.snapshot) refusal.fault)
 
--- how a stack starts, by where its disks lie and what the images hold
+-- how a stack starts, given where its disks lie and what the images hold
 abbrev pub start_over : Contents → Description → Option (Result (List (Option Place)) LoadFault) → Start
 start_over held stack (Some (Ok images)) = start_at stack (stored_state stack (disk_contents images held))
 start_over held stack (Some (Err fault)) = start.Refuses (load_message fault)
 start_over held stack None = start.Unsettled
 
--- how a stack starts, by what PATHS delivered; without PATHS no store is read
+-- how a stack starts, given what PATHS delivered; without PATHS no exception store is read
 abbrev pub stored_start : (paths : Option Delivery) → Contents → Description → Start
 stored_start (Some paths) held stack = start_over held stack (images_in stack (part_read Paths paths))
 stored_start None held stack = start.fresh_start stack

@@ -17,9 +17,9 @@ moved past old new = record { old = past old; new = past new }
 abbrev pub IsUnmoved : {Past : Type 0} → Moved Past → Type 0
 IsUnmoved stream = stream.new ≡ stream.old
 
--- ---- streams, by the exit status
+-- ---- what the exit status implies for streams
 
--- how the requests were read, by the command's exit status
+-- what the command's exit status implies about how requests were read
 pub record RequestsRead (status : ℕ) (old new : InputPast) : Type 0 where
   -- requests are not read after their end or after a fault
   pub read_on : IsReadOn old new
@@ -31,7 +31,7 @@ pub record RequestsRead (status : ℕ) (old new : InputPast) : Type 0 where
   -- a refused command reads no requests
   pub unasked : status ≡ STATUS_REFUSED → new ≡ old
 
--- what was written and flushed, by the command's exit status
+-- what the command's exit status implies about what was written and flushed
 pub record OutputWritten (status : ℕ) (old new : OutputPast) : Type 0 where
   -- the output only grew; it failed exactly if the status is STATUS_WRITE_FAULT, which takes precedence over all others
   pub finished : IsFinished old new (status ≡ STATUS_WRITE_FAULT)
@@ -39,7 +39,7 @@ pub record OutputWritten (status : ℕ) (old new : OutputPast) : Type 0 where
   pub flushed : status ≢ STATUS_REFUSED → status ≢ STATUS_WRITE_FAULT → status ≢ STATUS_MEMORY → IsFlushed old new
   pub refused : status ≡ STATUS_REFUSED → new.flushes ≡ old.flushes
 
--- what was reported on standard error, by the command's exit status
+-- what the command's exit status implies about what was reported on standard error
 pub record MessagesTold (status : ℕ) (old new : OutputPast) : Type 0 where
   -- some message; other clauses say which one
   pub message : List ℕ
@@ -47,7 +47,7 @@ pub record MessagesTold (status : ℕ) (old new : OutputPast) : Type 0 where
   -- a failed output is reported as such
   pub write_message : status ≡ STATUS_WRITE_FAULT → message ≡ write_message
 
--- what a command did with its streams, by its exit status
+-- what the exit status of a command implies about its streams
 pub record StreamsLeft (status : ℕ) (requests : Moved InputPast) (output messages : Moved OutputPast) : Type 0 where
   pub read : RequestsRead status requests.old requests.new
   pub written : OutputWritten status output.old output.new
@@ -57,7 +57,7 @@ pub record StreamsLeft (status : ℕ) (requests : Moved InputPast) (output messa
 abbrev pub IsOut : (requests : Moved InputPast) → (output messages : Moved OutputPast) → Type 0
 IsOut requests output messages = IsUnmoved output × IsUnmoved requests × IsTold memory_message messages.old messages.new
 
--- ---- streams, by the exit
+-- ---- what the exit implies for streams
 
 -- the command exits with the status and the message of `exit`
 pub record Exits (exit : Exit) (result : ℕ) (old new : OutputPast) : Type 0 where

@@ -1,4 +1,4 @@
--- What `map` answers, by what was delivered. It may first play earlier requests, without answering them, and may start in the state that exception stores hold.
+-- What `map` answers to what was delivered. It may first play earlier requests, without answering them, and may start in the state that exception stores hold.
 use Rattle.dmremap.specs.Base.{ℕ, Bool, List, [], Option, None, Some, option_map, Delivery, InputPast, delivery, Ending, State, start_state, Description, Outcome, requests_outcome, run_outcome, HasMet, Ended, Refused}
 use Rattle.dm_stream.specs.declared.runs.earlier.EarlierFault.TheVariants as earlier
 use Rattle.dm_stream.specs.declared.runs.ending.Ending.TheVariants as endings
@@ -35,7 +35,7 @@ answer_after (Some endings.ReadFault) outcome = Some (Tells (end_of (Refused (re
 answer_after (Some endings.WriteFault) outcome = None
 answer_after None outcome = None
 
--- what a run over a stack answers, by how the stack starts; None if that isn't settled
+-- what a run answers over a stack that starts like this; None if the start isn't settled
 abbrev pub answer_over : Start → Description → (flag : Bool) → (before : Option Delivery) → Delivery → Option Answer
 answer_over (Begins state) description flag before requests =
     answer_after (earlier_from state description before).ending (outcome_from state description flag before requests)
@@ -46,7 +46,7 @@ answer_over Unsettled description flag before requests = None
 abbrev pub MapsOver : Start → Description → (flag : Bool) → (before : Option Delivery) → (requests : Delivery) → Answer → Type 0
 MapsOver start description flag before requests answer = answer_over start description flag before requests ≡ Some answer
 
--- `answer` is what `map` answers, by its opening, the earlier requests and the delivered requests; `flag` asks for status lines
+-- `answer` is what `map` answers, given its opening, the earlier requests and the delivered requests; `flag` asks for status lines
 abbrev pub Maps : (Opens : Opening → Type 0) → (starts : Description → Start) → (flag : Bool) → (before : Option Delivery) → (requests : Delivery) → Answer → Type 0
 Maps Opens starts flag before requests = Opened Opens (λ stack. MapsOver (starts stack) stack flag before requests)
 

@@ -83,7 +83,7 @@ fn len_of(stack: &Stack, name: &str) -> u64
     }
 }
 
-/// The first listed disk whose last sector, by the LVM2 text, can't be read.
+/// The first listed disk whose last sector, according to the LVM2 text, can't be read.
 fn first_short<I: Images>(disks: &mut ListedImages<I>, stack: &Stack) -> Option<usize>
     ensures paths { disks.new.paths.items ≡ disks.old.paths.items }
     ensures still { (held : DiskContents) → AreSeen (I.IsSeen disks.new.images) disks.new.paths.items held

@@ -1,5 +1,4 @@
-//! Prints the LVM2 text of the volume group whose disks lie in images, found as `GroupImages` finds it but not
-//! parsed.
+//! Prints the LVM2 text of the volume group whose disks lie in images, found as `GroupImages` finds it but not parsed.
 
 ghost use Rattle.dmremap.specs.Prelude.{InputPast, delivery, written_since, HasWritten, IsReadOn, Contents, Answers, unread, Does, failed_writes, AreImagesUsed, PrintsImages, AskedBy, StreamsLeft, moved};
 

@@ -32,11 +32,11 @@ pub trait Opens {
     /// The openings that the reads between two moments allow, if images hold these contents.
     ghost opens: { Self → Self → Contents → Opening → Type 0 };
 
-    /// How a run over a stack starts, by the reads between two moments and by what images hold.
+    /// How a run over a stack starts. The reads between two moments and the images' contents decide it.
     ghost starts: { Self → Self → Contents → Description → Start };
 
-    /// What a read of sectors over a stack answers, by the reads between two moments and by what images hold; None if
-    /// they don't settle it.
+    /// What a read of sectors over a stack answers. The reads between two moments and the images' contents decide it;
+    /// None if they don't settle it.
     ghost reads: { Self → Self → Contents → RangeWords → Description → Option Answer };
 
     /// This source opened the stack between two moments, and did nothing else.

@@ -18,8 +18,7 @@ use std::io;
 use std::io::Read;
 use std::marker::PhantomData;
 
-/// A file of a load, with its path and, as the type `P`, its part in the command, so that no file is taken for
-/// another.
+/// A file of a load, with its path and, as the type `P`, its part in the command, so that no file is taken for another.
 #[derive(Drop)]
 pub(crate) struct PartFile<'r, R: Files, P> {
     files: &'r R,

@@ -99,8 +99,7 @@ impl<W: Output, Q: Exchange<W>> HandlesFrom<Q> for RequestPlayer<'_, '_, W> {
     }
 }
 
-/// Plays requests and writes their answers, up to the first bad request, the end or a fault. Doesn't flush the
-/// output.
+/// Plays requests and writes their answers, up to the first bad request, the end or a fault. Doesn't flush the output.
 fn play_requests<'s, Q: Exchange<W>, W: Output>(
     alloc: Global,
     stack: &Stack,

@@ -729,13 +729,11 @@ fn asked_word<'a>(words: &'a [&'a str]) -> Option<&'a str>
     }
 }
 
-/// The job that the words ask for; the first word is the program's name. No file is opened.
-/// `help` with a word of messages is a job. `help` with a command and other requests for help or the version are
-/// faults with that text, and so is no word at all.
-/// A lone hyphen, which clap would accept as a value, is refused before the first `--`, whatever the other words are.
-/// DISKS that is missing or not needed is reported only if clap accepts the words.
-/// The command line is built anew at each call, and once more for a refusal of the program's own; the words are
-/// scanned twice.
+/// The job that the words ask for; the first word is the program's name. No file is opened. `help` with a word of
+/// messages is a job. `help` with a command and other requests for help or the version are faults with that text, and
+/// so is no word at all. A lone hyphen, which clap would accept as a value, is refused before the first `--`, whatever
+/// the other words are. DISKS that is missing or not needed is reported only if clap accepts the words. The command
+/// line is built anew at each call, and once more for a refusal of the program's own; the words are scanned twice.
 pub fn read_words<'a>(alloc: Global, words: &'a [&'a str]) -> Result<Job<'a>, WordsFault>
     ensures job { IfOk result (IsJobOf (texts words.now)) }
     ensures fault { IfErr result (IsFaultOf (texts words.now)) }

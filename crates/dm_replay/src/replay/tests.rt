@@ -55,8 +55,7 @@ const TWO: (&str, &str) = (
 /// Tables and disks; requests, each behind the number of units after which it is halted or behind a hyphen; and the
 /// lines of the answers to requests that are not halted.
 static HALTS: [((&str, &str), &str, &str); 22] = [
-    // A write of two sectors has six units: four copies, because the device's end cuts the chunk short, and two
-    // writes.
+    // A write of two sectors has six units: four copies, because the device's end cuts the chunk short, and two writes.
     (SHORT, "0 W s 18 2\n- R s 16 4\n", "2 old base 16 4\n"),
     (SHORT, "1 W s 18 2\n- R s 16 4\n", "2 old base 16 4\n"),
     (SHORT, "2 W s 18 2\n- R s 16 4\n", "2 old base 16 4\n"),

@@ -58,8 +58,7 @@ abbrev pub Told : (all held : List ℕ) → List NumberedRequest → ℕ → Typ
 Told all held done n =
     (stand : Stand) (more : List ℕ) → requests_from stand 1 (line_parts (all ++ more)) ≡ after_requests done (requests_from stand n (line_parts (held ++ more)))
 
--- the requests answered since the first states, followed by those of the held bytes, are the requests of all bytes, whatever follows; no end and no fault was
--- met
+-- the requests answered since the first states, then those of the held bytes, are the requests of all bytes, whatever follows; no end or fault was met
 pub record HasHandled {H S : Type 0} (AreAnswered : H → S → List NumberedRequest → H → S → Type 0) (first now : InputPast) (h0 h1 : H) (s0 s1 : S) (held : List ℕ) (n : ℕ) : Type 0 where
   pub done : List NumberedRequest
   pub answered : AreAnswered h0 s0 done h1 s1
@@ -78,14 +77,14 @@ line_first stand held line more n h =
     let rest = drop (suc (length line)) held ++ more in
     cc (part_stays held line h.second h.others more h.is, next_line stand line rest h.short, add-one (length line))
 
--- one more line is a request, which is handed on
+-- if the next line is a request, it is handed on after those before it
 told_more : (all held new line : List ℕ) (done more : List NumberedRequest) (n : ℕ) (stand : Stand) → Told all held done n → next_answer stand (line_parts (held ++ new)) ≡ ALine line → ((rest : Requests) → line_requests n line rest ≡ after_requests more rest)
     → Told (all ++ new) (drop (length line + 1) (held ++ new)) (done ++ more) (n + 1)
 told_more all held new line done more n stand told next is = λ at_end later.
     let rest = requests_from at_end (n + 1) (line_parts (drop (length line + 1) (held ++ new) ++ later)) in
     cc (append_assoc all new later, told at_end (new ++ later), append_assoc held new later, line_first at_end (held ++ new) line later n (next_is stand (line_parts (held ++ new)) line next), is rest, append_assoc done more rest.all)
 
--- one more line is a request, which is handed on after the input handed out more bytes
+-- if the next line is a request, it is handed on, after the input delivered more bytes
 pub told_turn : (h0 h1 h2 held after line : List ℕ) (done more : List NumberedRequest) (n : ℕ) (stand : Stand) → Told (since h0 h1) held done n
     → h1 ≡ h0 ++ since h0 h1 → h2 ≡ h1 ++ since h1 h2
     → ALine line ≡ next_answer stand (line_parts (held ++ since h1 h2)) → ((rest : Requests) → line_requests n line rest ≡ after_requests more rest)
@@ -95,7 +94,7 @@ told_turn h0 h1 h2 held after line done more n stand told e f next is left =
 
 -- What comes next in an input
 
--- the requests of the held bytes, by what comes next
+-- what comes next decides the requests of the held bytes
 by_answer : (stand : Stand) (held : List ℕ) (n : ℕ) → (rest : Requests) × (requests_from stand n (line_parts held) ≡ next_requests n (next_answer stand (line_parts held)) rest)
 by_answer stand held n =
     let s = some_part held in

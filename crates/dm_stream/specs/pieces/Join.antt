@@ -1,4 +1,4 @@
--- What a join took of units, and what it left, by the piece that it holds and by what was written.
+-- What a join took of units and what it left: the piece that it holds, and what it wrote.
 use Rattle.dm_stream.specs.Base.{ℕ, List, [], None, OutputPast, since, HasWrittenTo, SinkPast, BlockUnit, all_but_last, IsBeginning}
 use Rattle.dm_stream.specs.declared.pieces.join.Join.{Join}
 use Rattle.dm_stream.specs.pieces.Pending.{Pending, held_diskless, held_units}

@@ -17,14 +17,14 @@ pub data Answer : Type 0 where
   AFault : Answer
   Waits : Answer
 
--- what bytes without a newline are, by where the input stands: at its end, failed, or still open
+-- what bytes without a newline are, if the input is at its end, has failed, or is still open
 abbrev pub rest_answer : Stand → List ℕ → Answer
 rest_answer Clean [] = AnEnd
 rest_answer Clean (byte ∷ bytes) = AnUnended
 rest_answer Failed rest = AFault
 rest_answer Open rest = Waits
 
--- what comes next in an input, by its parts and where it stands; a line that is too long takes precedence over everything else
+-- what comes next in an input, given its parts and whether it ended, failed or is open; a line that is too long takes precedence over everything else
 abbrev pub next_answer : Stand → List (List ℕ) → Answer
 next_answer stand [] = Waits
 next_answer stand (rest ∷ []) = if nat_lt MOST_LINE_BYTES (length rest) then ALong else rest_answer stand rest

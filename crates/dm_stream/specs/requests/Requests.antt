@@ -78,7 +78,7 @@ pub record IsAmong (IsFirst : List NumberedRequest → Type 0) (requests : List 
   pub is : requests ≡ first ++ later
   pub holds : IsFirst first
 
--- what reading the requests met, by how they end: neither an end nor a fault at a bad line, except the end behind an unterminated line
+-- what reading the requests met if they end like this: at a bad line neither an end nor a fault, except the end behind an unterminated line
 abbrev pub HasMet : ending.Ending → (old new : InputPast) → Type 0
 HasMet ending.TheVariants.Done old new = new.faults ≤ old.faults
 HasMet (ending.TheVariants.BadRequest number word.TheVariants.Unended) old new = new.faults ≤ old.faults

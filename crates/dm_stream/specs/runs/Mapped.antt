@@ -20,12 +20,11 @@ pub record IsReady (stack : Description) (mapper : MapperView) (held : Pending) 
 pub record HasAnswered (stack : Description) (old new : State) (requests : List NumberedRequest) (before after : List ℕ) : Type 0 where
   pub told : (rest : List NumberedRequest) (e : Option ending.Ending) → outcome_from stack old (requests ++ rest) e ≡ after_text (since before after) (outcome_from stack new rest e)
 
--- how many writes failed, by why a request was not mapped
+-- how many writes failed, given why a request was not mapped
 abbrev pub failed_writes : NotMapped → ℕ
 failed_writes cause = write_faults (ending_for cause)
 
--- why the mapper stopped at the last of these requests: its device is unknown, and the outcome ends here; or a write failed, and only a proper prefix of the
--- output was written
+-- why the mapper stopped at the last of these requests: its device is unknown, and the outcome ends; or a write failed, and the output was cut short
 abbrev pub HasStopped : Description → NotMapped → State → MapperView → List NumberedRequest → (before after : List ℕ) → Type 0
 HasStopped stack (causes.Unknown number) old new requests before after = (new.failed ≡ false) × ((rest : List NumberedRequest) (e : Option ending.Ending) → outcome_from stack old (requests ++ rest) e
     ≡ record { output = since before after; state = new.state; ending = Some (ending.TheVariants.BadRequest number word.TheVariants.Unknown) })

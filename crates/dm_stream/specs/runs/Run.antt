@@ -12,7 +12,7 @@ abbrev pub ending_for : NotMapped → ending.Ending
 ending_for (causes.Unknown number) = ending.TheVariants.BadRequest number word.TheVariants.Unknown
 ending_for causes.Output = ending.TheVariants.WriteFault
 
--- how many writes failed, by how the run ended
+-- how many writes failed in a run that ended like this
 abbrev pub write_faults : ending.Ending → ℕ
 write_faults ending.TheVariants.Done = 0
 write_faults (ending.TheVariants.BadRequest number w) = 0
@@ -31,8 +31,7 @@ pub record IsLeft (mapper_old mapper_new : MapperView) (requests_old requests_ne
   pub going : e ≢ ending.TheVariants.WriteFault → mapper_new.failed ≡ false
   -- requests are not read after their end or after a fault
   pub reads : IsReadOn requests_old requests_new
-  -- a read of the requests failed if the run ends with a read fault, and none failed if it ends as done. At a bad line, neither a failed read nor the end of
-  -- the input was met, except the end behind an unterminated line
+  -- a read failed if the run ends with a read fault, and none if it is done. At a bad line no read failed, and the end was met only if the line is unterminated
   pub met : HasMet e requests_old requests_new
 
 -- what was done before the flush: the whole outcome, or only a proper prefix of its output if a write failed
@@ -46,8 +45,7 @@ pub record HasMappedAll (stack : Description) (mapper_old mapper_new : MapperVie
   pub writes : HasWritten output_old output_new (write_faults e)
   pub mapped : IsMapped (requests_outcome stack mapper_old.state (delivery requests_old requests_new)) (written_since output_old output_new) mapper_new.state e
 
--- what a run did, with its flush: the output was closed after the outcome's output. Unless the output failed, the run ends as the outcome does and leaves the
--- same state
+-- what a run did, with its flush: the output was closed after the outcome's output; unless it failed, the run ends as the outcome does, in the same state
 pub record HasRun (old new : OutputPast) (outcome : Outcome) (left : State) (e : ending.Ending) : Type 0 where
   pub output : IsClosedAfter old new (e ≡ ending.TheVariants.WriteFault) outcome.output
   pub ends : e ≢ ending.TheVariants.WriteFault → (outcome.ending ≡ Some e) × (left ≡ outcome.state)

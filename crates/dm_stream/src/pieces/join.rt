@@ -63,8 +63,7 @@ impl<'s, W: Output> Join<'s, W> {
         ensures nothing { self.new.held
             ≡ record { stack = self.old.held.stack; number = self.old.held.number; piece = None } }
         ensures same_reference { IsSameReference self.old.writer self.new.writer }
-        // `fewest` gives the only pieces of the units of which none continues the one before, and no others are
-        // fewer.
+        // `fewest` gives the only pieces of the units of which none continues the one before, and no others are fewer.
         ensures fewest { (units : List BlockUnit) → AreFewest units (fewest units) }
     {
         self.held.write(&mut *self.writer)

@@ -10,8 +10,7 @@ use std::marker::Model;
 
 /// The letter of a write or of a read. In contracts, its value says whether it is that of a write.
 ///
-/// It is kept as a whole word, 1 or 0, because around a single byte the bytes beside it would be cleared at each
-/// store.
+/// It is kept as a whole word, 1 or 0, because around a single byte the bytes beside it would be cleared at each store.
 #[derive(Clone, Copy, Drop)]
 pub(crate) struct Letter {
     word: u64,

@@ -81,7 +81,7 @@ impl LineEnds {
     }
 }
 
-/// The table entry of a length below 1,000.
+/// The table entry for a length below 1,000: its digits, a newline, and how many bytes these are.
 fn line_end(len: usize) -> [u8; END_BYTES]
     requires { len < LENGTHS }
     ensures { IsLineEnd len result }

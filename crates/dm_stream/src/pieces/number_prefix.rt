@@ -1,7 +1,6 @@
 //! What each line of a request begins with: the request's number and a space.
 //!
-//! Request numbers mostly rise by one, so a change of only the last digit is made in place. The array is copied
-//! whole.
+//! Request numbers mostly rise by one, so a change of only the last digit is made in place. The array is copied whole.
 //!
 //! This is here for speed alone: RESULTS.md has its gain as *texts kept ready*. It relies on the array always holding
 //! the text of its number. Change it only if you measure small requests before and after.

@@ -181,8 +181,7 @@ pub(crate) fn put_other<W: Output>(
     }
 }
 
-/// Puts the line of a copy or a fill, after the request's number, at offset `at` of a block, and returns where it
-/// ends.
+/// Puts the line of a copy or a fill, after the request's number, at offset `at` of a block, and returns where it ends.
 #[inline(always)]
 fn put_copy_or_fill(
     block: &mut [u8],

@@ -89,8 +89,7 @@ impl RangeText {
         self.end = put_range(&mut self.text, 0, start, len);
     }
 
-    /// Puts a range at offset `at` of a block, and returns where it ends. If a text is kept, it is that of this
-    /// range.
+    /// Puts a range at offset `at` of a block, and returns where it ends. If a text is kept, it is that of this range.
     #[inline(always)]
     pub(crate) fn put_into(
         &self,

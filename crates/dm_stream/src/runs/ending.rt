@@ -3,7 +3,7 @@
 //! Each word for a bad request is a variant, in the order of the checks; `message` writes them. A new word goes where
 //! its check is made.
 
-/// What is wrong with a request, by the first check that finds a fault.
+/// What is wrong with a request: the first fault that a check finds.
 #[derive(Clone, Copy, Debug, PartialEq, Eq)]
 pub enum RequestWord {
     /// The line has more than 4,096 bytes without its newline.

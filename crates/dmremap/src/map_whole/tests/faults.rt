@@ -69,8 +69,7 @@ const FAILING_FLUSH: Streams = Streams {
     ..STEADY
 };
 
-/// Cases with several faults, each with the one that is reported, and cases where an output is not asked for
-/// anything.
+/// Cases with several faults, each with the one that is reported, and cases where an output is not asked for anything.
 static ROWS: [Case<'static>; 12] = [
     VOLUME,
     LINE_AND_REST,
