@@ -32,7 +32,7 @@ pub record Reading : Type 0 where
   pub bytes : List ℕ
   pub stop : Option Stop
 
--- these bytes, followed by a later reading
+-- a reading that begins with these bytes and continues as a later reading does
 abbrev pub after : List ℕ → Reading → Reading
 after bytes later = record { bytes = bytes ++ later.bytes; stop = later.stop }
 

@@ -9,11 +9,11 @@ use Rattle.std.specs.Prelude.{◌∷◌, ◌++◌}
 abbrev pub kept_request : Request → (id : ℕ) → Option ℕ → Asked
 kept_request request id halt = record { number = request.number; op = request.op; device = id; start = request.start; len = request.len; halted_after = halt }
 
--- a kept request as one of the definitions
+-- a kept request in the form that the definitions use
 abbrev pub asked_of : AskedRequest → Asked
 asked_of kept = record { number = kept.number; op = kept.op; device = kept.device; start = kept.start; len = kept.len; halted_after = kept.halted_after }
 
--- kept requests as those of the definitions, in the same order
+-- kept requests in the form that the definitions use, in the same order
 abbrev pub all_asked : List AskedRequest → List Asked
 all_asked kept = map asked_of kept
 
