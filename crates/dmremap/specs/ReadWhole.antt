@@ -18,7 +18,7 @@ use Rattle.std.specs.Prelude.{◌≡◌, ◌≢◌, ◌+◌, ◌-◌, ◌<◌, �
 abbrev pub within : (from count len : ℕ) → Option ℕ
 within from count len = if nat_le (from + count) len then Some count else None
 
--- how many sectors to read: the count that is given, or all up to the device's end; None if they go past it
+-- how many sectors to read: the count that is given, or all up to the device's end; None if these sectors go past it
 abbrev pub count_in : (from : ℕ) → (count : Option ℕ) → (len : ℕ) → Option ℕ
 count_in from count len = within from (unwrap_or count (len - from)) len
 

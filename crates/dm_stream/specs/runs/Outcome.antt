@@ -32,7 +32,7 @@ abbrev pub request_answer : Description → (device : ℕ) → NumberedRequest �
 request_answer stack device request state =
     pieces_text stack request.number (fewest (step_of stack device request state).units)
 
--- the outcome from a request on, if `later` gives that of the requests after it; a request without a device ends the outcome
+-- the outcome from a request on, if `later` gives that of the requests after it; a request with an unknown device ends it
 abbrev pub of_device : Description → Option ℕ → NumberedRequest → State → (State → Outcome) → Outcome
 of_device stack (Some device) request state later =
     after_text (request_answer stack device request state) (later (step_of stack device request state).state)

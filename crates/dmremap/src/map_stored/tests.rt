@@ -1,4 +1,4 @@
-//! Runs after earlier requests, over inputs in memory that are short or fail, which no file on a disk shows.
+//! Runs after earlier requests, over inputs in memory with short reads or faults, which no file on a disk shows.
 //!
 //! Everything else is tested on the built program (`tests/outside`).
 

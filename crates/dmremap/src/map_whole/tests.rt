@@ -1,4 +1,4 @@
-//! All of `map` over inputs and outputs in memory that are short or fail: the exact output, message and status.
+//! All of `map` over inputs and outputs in memory with short reads, short writes and faults: the exact output, message and status.
 //!
 //! Which bytes follow from which texts is tested on the built program (`tests/outside`). Here are the tests that need
 //! a stream of our own, or calls that only a library has. Expected results are derived from the rules, never copied
@@ -53,7 +53,7 @@ struct Streams {
     flush_fails: bool,
 }
 
-/// Streams that never fail and are never short.
+/// Streams without faults, and without short reads or writes.
 const STEADY: Streams = Streams {
     step: PLENTY,
     source: None,

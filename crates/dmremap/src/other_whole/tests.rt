@@ -1,4 +1,4 @@
-//! The commands that print, over inputs and outputs in memory that are short or fail.
+//! The commands that print, over inputs and outputs in memory with short writes and faults.
 //!
 //! What is printed for which texts is tested on the built program (`tests/outside`). Here each command runs with
 //! ample memory, and its output and its messages fail after each of their bytes in turn.

@@ -1,4 +1,4 @@
-//! Streams that are short or fail: sources, disk lists, requests, outputs and message streams.
+//! Streams with short reads, short writes and faults: sources, disk lists, requests, outputs and messages.
 //!
 //! Reads and writes are cut in every way, and a stream fails after each of its bytes in turn. What was written before
 //! the fault is a prefix of what would have been written, and which fault is reported doesn't depend on where reads

@@ -1,4 +1,4 @@
-//! The command `replay` over inputs and outputs in memory that are short or fail.
+//! The command `replay` over inputs and outputs in memory with short reads, short writes and faults.
 //!
 //! The answers to requests, also from what exception stores hold, are tested on the built program (`tests/outside`).
 
