@@ -176,7 +176,8 @@ impl<'s, T: Taken> Replay<'s, T> {
         if !self.tops[device.index()] {
             return Err(ReplayFault::NotTop);
         }
-        // Called for their contracts: that top devices behave like disks of their own, and when they do so without errors.
+        // Called for their contracts, which say that top devices behave like disks of their own, and when
+        // they do so without errors.
         requests_are_alone::<Value>(self.stack);
         nothing_is_lost::<Value>(self.stack);
         // The replay counts as failed until the end, so that it has failed wherever memory runs out.

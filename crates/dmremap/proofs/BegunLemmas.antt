@@ -19,7 +19,7 @@ pub out_begun : (stack : Description) (before : Option Delivery) (start : Start)
 out_begun stack before start (refusals.Earlier fault) memory = absurd (omega (arith, memory))
 out_begun stack before start why memory = λ other. absurd (other memory)
 
--- a refusal without any earlier requests is a refusal with them, too
+-- refused earlier requests don't end as done; below, a refusal without earlier requests is one with them, too
 pub never_done : (fault : EarlierFault) → Some endings.Done ≡ Some (refused_ending fault) → ⊥
 never_done (earlier.BadRequest number word) is = cc
 never_done earlier.Read is = cc

@@ -17,7 +17,7 @@ pub loaded_maps : (Opens : Opening → Type 0) (starts : Description → Start) 
     → Answers (MapsOver (starts stack) stack flag before) requests output messages status → Answers (Maps Opens starts flag before) requests output messages status
 loaded_maps Opens starts flag before stack opens over = loaded_answers Opens (λ asked stack. MapsOver (starts stack) stack flag before asked) stack opens over
 
--- `map` whose opening is refused reports the refusal, wherever runs would start
+-- a `map` whose opening is refused reports the refusal, wherever runs would start
 pub unopened_maps : (Opens : Opening → Type 0) (starts : Description → Start) (flag : Bool) (before : Option Delivery) (refusal : Refusal) {requests : InputPast} {output : OutputPast} {messages : Moved OutputPast} {status : ℕ} → IsOpened Opens (Err refusal)
     → Exits (exits.Refused refusal) status messages.old messages.new → Answers (Maps Opens starts flag before) (still requests) (still output) messages status
 unopened_maps Opens starts flag before refusal opened exited = unopened_answers Opens (λ asked stack. MapsOver (starts stack) stack flag before asked) refusal opened exited

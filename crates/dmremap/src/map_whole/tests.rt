@@ -1,4 +1,5 @@
-//! All of `map` over inputs and outputs in memory with short reads, short writes and faults: the exact output, message and status.
+//! All of `map` over inputs and outputs in memory with short reads, short writes and faults: the exact output,
+//! message and status.
 //!
 //! Which bytes follow from which texts is tested on the built program (`tests/outside`). Here are the tests that need
 //! a stream of our own, or calls that only a library has. Expected results are derived from the rules, never copied
