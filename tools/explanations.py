@@ -8,22 +8,22 @@ import diagnostics
 
 HEAD = '''//! What each word of a message means, its causes and what to do, as the manual says it.
 //!
-//! Made by tools/derive of the DIAGNOSTICS in docs/dmremap.1: don't edit.
+//! Made by tools/derive from the DIAGNOSTICS in docs/dmremap.1: don't edit.
 
 use crate::help::HELP;
 
-/// The words that are explained, in lines of their own.
+/// The words that `help` explains, in lines of their own.
 pub(crate) const WORDS: &str = "
 %s";
 
-/// The parts of messages, of which an entry that has one alone has it twice; a word of theirs; and what is said of it.
+/// The two parts whose messages an entry explains (the same twice if there is only one), the word, and its text.
 pub(crate) type Entry<'a> = ((&'a str, &'a str), &'a str, &'a str);
 
-/// The entries of the first words. A static of more text takes a proof too long.
+/// The entries for the first words. There are two tables because the proof of a larger one takes too long.
 pub(crate) static FIRST_ENTRIES: [Entry<'static>; %d] = [
 %s];
 
-/// Those of the other words, and of how to ask, which is of no part.
+/// The entries for the other words, and for how to ask for help, which belongs to no part.
 pub(crate) static LATER_ENTRIES: [Entry<'static>; %d] = [
 %s];
 %s'''

@@ -1,4 +1,4 @@
--- The words and lemmas that proofs cite, from one place.
+-- Names and lemmas that proofs cite, re-exported from one place.
 pub use Rattle.dm_map.specs.Prelude.{BlockUnit, IsFirstRead, MapperView, ReadOf, read, unit_at, with_looked}
 pub use Rattle.dm_read.specs.Prelude.{AreCounted, AreFilled, AreKept, ByteFault, Filled, Reading, Stop, after, device_bytes, of_disk, unit_bytes, zeros}
 unfoldable pub use Rattle.dm_read.specs.Prelude.{bytes_of}

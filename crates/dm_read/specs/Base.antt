@@ -1,4 +1,4 @@
--- The words of std and of the crates below that this crate cites, and its types, from one place.
+-- Names of std, of lower crates and of this crate's types, re-exported from one place.
 pub use Rattle.dm_map.specs.Prelude.{BlockUnit, ReadOf, State, Zeros, read}
 pub use Rattle.dm_read.specs.declared.fault.ByteFault.{ByteFault}
 pub use Rattle.dm_read.specs.declared.fault.ByteFault.TheVariants.{Error, Unread}

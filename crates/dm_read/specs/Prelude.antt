@@ -1,4 +1,4 @@
--- The words that contracts cite, here and in crates above, from one place.
+-- Names that contracts cite, here and in crates above, re-exported from one place.
 pub use Rattle.dm_map.specs.Prelude.{IsGroundNear, unit_at, with_looked}
 pub use Rattle.dm_read.specs.Base.{Err, Ok, ReadOf, length, replicate, sector_in, ℕ}
 pub use Rattle.dm_read.specs.Bytes.{IsWritten, Reading, after, device_bytes, of_disk, unit_bytes, zeros}

@@ -1,4 +1,4 @@
-//! Blocks: the bytes of a few sectors of a device in a row.
+//! Blocks: the bytes of up to 128 consecutive sectors of a device.
 
 ghost use Rattle.dm_read.specs.Prelude.{length, with_looked, device_len, Contents, disk_contents, device_bytes, AreCounted, AreFilled};
 ghost use Rattle.std.specs.Prelude.{◌≡◌, ◌+◌, ◌*◌, ◌<◌, ◌≤◌, ◌^◌};
@@ -12,7 +12,7 @@ use dm_store::{DiskImages, Images};
 /// The most sectors of a block.
 pub(crate) const BLOCK_SECTORS: u64 = 128;
 
-/// Reads sectors of a device to the front of a block, up to the first that has no bytes.
+/// Reads `count` sectors of a device to the front of a block, up to the first that has no bytes.
 pub(crate) fn fill_block<I: Images, T: Taken>(
     images: &mut I,
     places: &DiskImages,

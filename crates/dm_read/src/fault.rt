@@ -5,9 +5,9 @@ use dm_store::SectorFault;
 /// Why a sector of a device has no bytes.
 #[derive(Clone, Copy, Debug, PartialEq, Eq, Drop)]
 pub enum ByteFault {
-    /// Its path ends at an error, or at a lost snapshot.
+    /// The sector maps to an error, or to a snapshot that is lost.
     Error,
-    /// The sector of a disk that it is can't be read.
+    /// The sector of a disk that this sector maps to can't be read.
     Unread(SectorFault),
 }
 

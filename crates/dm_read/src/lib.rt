@@ -1,7 +1,7 @@
 //! The bytes of devices, read from images of disks.
 //!
-//! `specs/Bytes.antt` defines the bytes of a sector of a device, by what its read is and what disks hold, and
-//! those of sectors in a row. `write_sectors` writes them.
+//! `specs/Bytes.antt` defines the bytes of a device's sector, given what its read maps to and what disks hold, and
+//! those of consecutive sectors. `write_sectors` writes them.
 #![tactic(auto)]
 
 mod block;

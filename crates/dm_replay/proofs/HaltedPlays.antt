@@ -18,7 +18,7 @@ length_in unit (suc len) = ap suc (length_in (next_unit unit) len)
 shorter : (stack : Description) (disk start n len : ℕ) → n ≤ len → IsOnDisk stack disk start len → IsOnDisk stack disk start n
 shorter stack disk start n len few lies = record { there = lies.there; inside = omega (arith, few, lies.inside) }
 
--- the sectors of units that go on from one are there
+-- the sectors of `len` consecutive units, from this one on, are on the stack's disks
 abbrev AreOn : Description → BlockUnit → (len : ℕ) → Type 0
 AreOn stack (ReadOf disk sector) len = IsOnDisk stack disk sector len
 AreOn stack (WriteOf disk sector) len = IsOnDisk stack disk sector len
@@ -41,18 +41,18 @@ piece_on : (stack : Description) (piece : Piece) → AreOn stack (first_unit pie
 piece_on stack (pieces.Zero len) on = tt
 piece_on stack piece on = on
 
--- a piece that begins as another one, and isn't longer
+-- a piece that begins like another one, and isn't longer, lies on the disks where that does
 pub cut_lies : (stack : Description) (piece cut : Piece) → first_unit cut ≡ first_unit piece → piece_len cut ≤ piece_len piece → IsOnDisks stack piece → IsOnDisks stack cut
 cut_lies stack piece cut first few lies =
     piece_on stack cut (subst (λ (unit : BlockUnit). AreOn stack unit (piece_len cut)) (sym first) (fewer_on stack (first_unit piece) (piece_len cut) (piece_len piece) few (of_piece stack piece lies)))
 
--- and its units
+-- the units of a piece that begins like another one are the first of that one's units
 pub cut_units : (piece cut : Piece) → first_unit cut ≡ first_unit piece → piece_len cut ≤ piece_len piece → units_of cut ≡ take (piece_len cut) (units_of piece)
 cut_units piece cut first few = rw first (sym (front_in (first_unit piece) (piece_len cut) (piece_len piece) few))
 
 -- What is played of a piece
 
--- all of it
+-- a halting player that played all of a piece
 pub taken_piece : (old new : Halting) (piece : Piece) → IsOnDisks old.player.stack.now piece → HasPlayed old.player.playing (units_of piece) new.player.playing → new.left + piece_len piece ≡ old.left
     → new.player.stack.now ≡ old.player.stack.now → new.halted ≡ old.halted → HasTaken old (units_of piece) new
 taken_piece old new piece lies has fewer same halted = record {
@@ -63,7 +63,7 @@ taken_piece old new piece lies has fewer same halted = record {
   halted = halted;
 }
 
--- the units that are left, by a piece that is cut
+-- a halting player that played the units left to it, as a shorter piece
 pub halted_piece : (old new : Halting) (piece cut : Piece) → IsOnDisks old.player.stack.now piece → first_unit cut ≡ first_unit piece → piece_len cut ≡ old.left → old.left < piece_len piece
     → HasPlayed old.player.playing (units_of cut) new.player.playing → new.player.stack.now ≡ old.player.stack.now → HasHalted old (units_of piece) new
 halted_piece old new piece cut lies first len more has same =
@@ -76,7 +76,7 @@ halted_piece old new piece cut lies first len more has same =
       stack = same;
     }
 
--- none
+-- a halting player with no units left played none of the piece
 pub halted_none : (old new : Halting) (piece : Piece) → old.left ≡ 0 → 1 ≤ piece_len piece → new.player ≡ old.player → HasHalted old (units_of piece) new
 halted_none old new piece none some same =
     let front : [] ≡ take old.left (units_of piece) = cc (none) in
@@ -87,9 +87,9 @@ halted_none old new piece none some same =
       stack = rw same;
     }
 
--- The first of a request's units
+-- The first units of a request
 
--- as many as were left, or all
+-- the player played as many of these units as were left, or all of them
 pub record HasPlayedFront (old : Halting) (units : List BlockUnit) (new : Halting) : Type 0 where
   pub played : HasPlayed old.player.playing (take old.left units) new.player.playing
   pub of : AreUnitsOf (length old.player.stack.now.disks) (take old.left units)

@@ -1,4 +1,4 @@
--- The device of a name, and what is said of it by its id.
+-- The device with a name, and what its id says about it.
 use Rattle.dm_replay.proofs.Prelude.{ℕ, Bool, true, false, List, [], None, Some, Result, Ok, Err, IfErr, get_or, length, subst, arith, position, common_steps, position-Some, AreTops, IsTop, Description, device_id, is_same, ReplayFault, HasTop, IsUnanswered, Replaying}
 use Rattle.dm_table.specs.declared.tables.table.DeviceSpec.{DeviceSpec}
 use Rattle.dm_replay.specs.declared.replay_fault.ReplayFault.TheVariants as faults
@@ -14,12 +14,12 @@ named_there stack name id named = in_list stack.devices named
     in_list [] is = absurd cc
     in_list (first ∷ devices) is = (position-Some (λ device. is_same device.name name) (first ∷ devices) id first is).0
 
--- what is noted of a device, where it is read
+-- a device that is noted as a top device is one
 
 pub noted_top : (stack : Description) (tops : List Bool) (device at : ℕ) (read : Bool) → AreTops stack tops → device < length stack.devices → at ≡ device → read ≡ get_or tops at false → read ≡ true → IsTop stack device
 noted_top stack tops device at read are within same is so = (are.each device within).0 cc
 
--- whether its device is top
+-- whether the device with a name is a top device
 
 pub named_top : (stack : Description) (name : List ℕ) (id : ℕ) → position (λ device. is_same device.name name) stack.devices ≡ Some id → IsTop stack id → HasTop stack name
 named_top stack name id named top = record { id = id; named = named; top = top }
@@ -32,7 +32,7 @@ top_named stack name id named has =
 pub none_named : (stack : Description) (name : List ℕ) → position (λ device. is_same device.name name) stack.devices ≡ None → HasTop stack name → ⊥
 none_named stack name none has = cc
 
--- what is said of a result, said in another way
+-- a result says the same if "top device" is expressed by an equivalent condition
 
 unanswered_by : (fault : ReplayFault) (IsOfTop IsTheSame : Type 0) (old new : Replaying) → (IsOfTop → IsTheSame) → (IsTheSame → IsOfTop) → IsUnanswered fault IsOfTop old new → IsUnanswered fault IsTheSame old new
 unanswered_by faults.Untidy IsOfTop IsTheSame old new there back is = is

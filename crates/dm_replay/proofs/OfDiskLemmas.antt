@@ -1,4 +1,4 @@
--- What is played on the disks of a stack, and what it answers.
+-- Playing on the disks of a stack names only those disks, in values and in answers.
 use Rattle.dm_replay.proofs.Prelude.{ℕ, zero, suc, Bool, true, false, cond, length, List, [], sym, subst, arith, AllByRecursion, Description, Piece, stored, sector_after, BlockUnit, ReadOf, WriteOf, CopyOf, FillOf, IsOnDisks, first_unit, next_unit, piece_len, units_in, units_of, Value, ValueRun, AreUnitsOf, AreValuesOf, IsAnswerOf, IsRunOf, IsUnitOf, IsValueOf, answers_in, first_answer, flat, run_answers, run_len, Answer, Values, old_values, played, played_answers, played_unit, unit_answers}
 use Rattle.dm_map.specs.declared.pieces.piece.Piece.TheVariants as pieces
 use Rattle.dm_map.specs.own.Contents.{played as contents_played}
@@ -6,7 +6,7 @@ use Rattle.dm_replay.specs.declared.value.Value.TheVariants as value
 use Rattle.dm_replay.specs.declared.value_run.ValueRun.TheVariants as runs
 use Rattle.std.specs.Prelude.{◌≡◌, ◌<◌, ◌∷◌, ◌++◌, ◌==◌, ◌&&◌}
 
--- Units
+-- Units on the disks of a stack
 
 next_of : (disks : ℕ) (unit : BlockUnit) → IsUnitOf disks unit → IsUnitOf disks (next_unit unit)
 next_of disks (ReadOf disk sector) is = is
@@ -22,11 +22,11 @@ first_of stack (pieces.Read disk start len) lies = lies.there
 first_of stack (pieces.Copy disk start len to to_start) lies = lies.0.there
 first_of stack piece lies = tt
 
--- those of a piece on the stack's disks
+-- the units of a piece on the stack's disks are on them
 pub piece_of : (stack : Description) (piece : Piece) → IsOnDisks stack piece → AreUnitsOf (length stack.disks) (units_of piece)
 piece_of stack piece lies = units_in_of (length stack.disks) (first_unit piece) (piece_len piece) (first_of stack piece lies)
 
--- Values
+-- Values that name the disks of a stack
 
 either : (disks : ℕ) (test : Bool) (one other : Value) → IsValueOf disks one → IsValueOf disks other → IsValueOf disks (cond test one other)
 either disks true one other is others = is
@@ -52,7 +52,7 @@ same_of disks values others same are disk sector there = subst (IsValueOf disks)
 pub old_of : (disks : ℕ) → AreValuesOf disks old_values
 old_of disks disk sector there = there
 
--- Answers
+-- Answers that name the disks of a stack
 
 abbrev AreAnswersOf : ℕ → List Answer → Type 0
 AreAnswersOf disks answers = AllByRecursion (IsAnswerOf disks) answers
@@ -94,7 +94,7 @@ runs_of disks (run ∷ all) some are = (
   runs_of disks all some.1 (answers_rest disks (run_answers run) (flat all) are),
 )
 
--- runs that answer units on the stack's disks name these alone
+-- runs that answer units on the stack's disks name only those disks
 pub runs_played_of : (disks request sector : ℕ) (units : List BlockUnit) (values : Values) (all : List ValueRun) → flat all ≡ played_answers request sector units values → AllByRecursion (λ run. 0 < run_len run) all → AreUnitsOf disks units → AreValuesOf disks values
     → AllByRecursion (IsRunOf disks) all
 runs_played_of disks request sector units values all is some are were =

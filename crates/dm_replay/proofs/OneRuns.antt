@@ -1,10 +1,10 @@
--- Answers are those of one list of maximal runs.
+-- Answers determine the list of maximal runs that give them.
 use Rattle.dm_replay.proofs.Prelude.{ℕ, zero, suc, List, [], refl, sym, ap, subst, arith, AllByRecursion, append_cancel_left, ValueRun, NoneJoins, AreMaximal, answers_in, first_answer, flat, further_answer, next_answer, run_answers, run_len, Answer}
 use Rattle.dm_replay.specs.declared.value_run.ValueRun.TheVariants as runs
 use Rattle.dm_replay.proofs.RunLemmas.{answer_next, answer_none}
 use Rattle.std.specs.Prelude.{◌≡◌, ◌<◌, ◌∷◌, ◌++◌}
 
--- a list's first answer is this one
+-- the first of the answers is this one
 abbrev Begins : List Answer → Answer → Type 0
 Begins [] first = ⊥
 Begins (answer ∷ rest) first = answer ≡ first
@@ -17,7 +17,7 @@ begins_as : (first other : Answer) (n : ℕ) (rest : List Answer) → 0 < n → 
 begins_as first other zero rest some e = absurd (omega (arith, some))
 begins_as first other (suc n) rest some e = e
 
--- where neither of two rows goes on, and they answer the same, they are as long
+-- if neither of two runs is continued by what follows, and both give the same answers, they are equally long
 same_len : (first : Answer) (m n : ℕ) (more others : List Answer) → answers_in first m ++ more ≡ answers_in first n ++ others
     → (Begins more (further_answer first m) → ⊥) → (Begins others (further_answer first n) → ⊥) → m ≡ n
 same_len first zero zero more others e ends end = refl

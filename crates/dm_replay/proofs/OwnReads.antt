@@ -1,4 +1,4 @@
--- What a read of a top device answers, where no claims meet: what the device would hold alone, or an error, and without errors where the stack can lose nothing.
+-- What a read of a top device answers if no claims clash: what the device would hold alone, or an error; no error if the stack can't lose anything.
 use Rattle.dm_replay.proofs.Prelude.{inl, inr, ℕ, zero, suc, Bool, true, false, cond, List, [], Option, Some, None, nat_lt, replicate, refl, ap, arith, le-ltb, Device, IsTidy, IsTop, Description, device_len, AreAlwaysExact, AreNeverLost, IsAmple, IsIntact, Stays, content, value_read, AreAlone, IsOwnAt, Rows, request_step, sector_step, read, IsFitting, State, keep, steps, BlockUnit, Fails, IsRead, Sector, Nothing, Fault, is_read, Value, Asked, World, asked_answers, world_after, AreOfTops, Answer, Gives, Failed, Values, played_answers}
 use Rattle.dm_table.specs.declared.requests.request.Op.TheVariants as ops
 use Rattle.dm_stack.specs.declared.checks.graph.TheConstants.{MOST_DEPTH}
@@ -7,15 +7,15 @@ use Rattle.dm_replay.specs.declared.value.Value.TheVariants as value
 use Rattle.dm_replay.proofs.OwnWorlds.{IsExact, exact_after, own_after}
 use Rattle.std.specs.Prelude.{◌≡◌, ◌⊎◌, ◌+◌, ◌<◌, ◌≤◌, ◌∷◌}
 
--- what the unit of a read answers
+-- the answer of a read's unit
 abbrev read_answer : BlockUnit → Values → Answer
 read_answer unit values = answer_of (value_read value.Zero values unit)
 
--- an answer is that of a sector of a row, or an error
+-- the answer is that of a sector of a row, or an error
 abbrev IsOfSector : Rows Value → (device sector : ℕ) → Answer → Type 0
 IsOfSector rows device sector answer = (answer ≡ answer_of (rows device sector)) ⊎ (answer ≡ Failed)
 
--- one sector after the other
+-- each sector of a device reads as its row has it, or as an error
 abbrev AreRead : Description → State → Values → Rows Value → (device : ℕ) → Type 0
 AreRead stack state values rows device = (sector : ℕ) → IsOfSector rows device sector (read_answer (read stack state (Device device) sector) values)
 
@@ -27,7 +27,7 @@ are_read : (stack : Description) (world : World) (device : ℕ) → IsTop stack 
 are_read stack world device top own sector =
     read_of (world.rows device sector) (content value.Zero stack world.state world.values (Device device) sector) (own.tops device sector top)
 
--- a read's first unit answers what it gives
+-- the first answer of a read is that of its first unit
 first_read : (number sector : ℕ) (unit : BlockUnit) (units : List BlockUnit) (values : Values) → IsRead unit → played_answers number sector (unit ∷ units) values ≡ read_answer unit values ∷ played_answers number (suc sector) units values
 unfolding played_answers
 first_read number sector unit units values (Sector disk at is) = rw is refl
@@ -68,13 +68,13 @@ own_answers stack start all asked law tidy fits each top whole reads =
     let world = world_after stack start all in
     rw (whole, reads) (request_of_row stack world.state asked.number asked.device asked.start asked.len world.values world.rows (are_read stack world asked.device top (own_after stack start all law tidy fits each)))
 
--- Without errors, where the stack can lose nothing
+-- Reads without errors, if the stack can't lose anything
 
--- an answer is the value of a sector of a row
+-- the answer is the value of a sector of a row
 abbrev IsExactlySector : Rows Value → (device sector : ℕ) → Answer → Type 0
 IsExactlySector rows device sector answer = (given : Value) × (rows device sector ≡ Some given) × (answer ≡ Gives given)
 
--- one sector after the other, before the device's end
+-- each sector of a device, before the device's end, reads as its row has it
 abbrev AreReadExactly : Description → State → Values → Rows Value → (device : ℕ) → Type 0
 AreReadExactly stack state values rows device = (sector : ℕ) → sector < device_len stack device → IsExactlySector rows device sector (read_answer (read stack state (Device device) sector) values)
 

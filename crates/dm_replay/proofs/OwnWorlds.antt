@@ -1,10 +1,10 @@
--- Worlds in which each top device has what it would have alone, or errors, and those without errors: they stay so where no claims meet.
+-- Worlds in which each top device has what it would have alone, or errors, and worlds without errors: they stay like that if no claims clash.
 use Rattle.dm_replay.proofs.Prelude.{inl, ℕ, List, [], Option, Some, None, refl, Device, IsTidy, IsTop, Description, AreAlwaysExact, AreExact, AreNeverLost, IsAmple, IsIntact, IsOwnAt, after_played, value_read, AreAlone, BlockUnit, Fails, IsFitting, State, read, IsRead, Sector, Nothing, Fault, is_read, Value, Asked, World, first_world, next_world, with_values, world_after, world_from, AreOfTops, old_values}
 use Rattle.dm_stack.specs.declared.checks.graph.TheConstants.{MOST_DEPTH}
 use Rattle.dm_replay.specs.declared.value.Value.TheVariants as value
 use Rattle.std.specs.Prelude.{◌≡◌, ◌∷◌}
 
--- What each request of a top device keeps, all of them do
+-- What each request to a top device keeps, all of them keep
 
 Keeps : Description → (World → Type 0) → Type 0
 Keeps stack P = (world : World) (asked : Asked) → IsTop stack asked.device → P world → P (next_world stack world asked)
@@ -30,7 +30,7 @@ own_next stack law tidy world asked top was = by_stop asked.halted_after
 pub own_after : (stack : Description) (start : State) (all : List Asked) → AreAlone Value stack → IsTidy stack → IsFitting stack start → AreOfTops stack all → IsOwnAt value.Zero stack (world_after stack start all)
 own_after stack start all law tidy fits each = kept_from stack (IsOwnAt value.Zero stack) (first_world stack start) all (own_next stack law tidy) each (own_at stack start fits)
 
--- And those without errors
+-- Worlds in which each top device has its row, without errors
 
 abbrev pub IsExact : Description → World → Type 0
 IsExact stack world = AreExact value.Zero stack world.state world.values world.rows

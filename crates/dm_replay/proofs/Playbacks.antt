@@ -1,4 +1,4 @@
--- The playback of a request whose first sector isn't taken beyond its device.
+-- The playback of a request, played from its device's end if its first sector is beyond that.
 use Rattle.dm_replay.proofs.Prelude.{inl, inr, ℕ, zero, suc, true, length, min, List, [], take, refl, sym, ap, ◌∙◌, arith, nat_lt, cases_lt, nat_tests, Op, Request, Description, device_len, sector_past, request_step, step_for, State, halted_units, BlockUnit, Fails, units_in, Halting, Playing, ValueRun, AreUnitsOf, AreValuesOf, values_of, HasPlayed, flat, Values, played, played_answers}
 use Rattle.dm_map.proofs.Rows.{step_past_end}
 use Rattle.dm_replay.specs.declared.player.Player.{Player}
@@ -7,7 +7,7 @@ use Rattle.dm_replay.proofs.OfDiskLemmas.{played_of, same_of}
 use Rattle.dm_replay.proofs.UnitPlays.{fails_answer, fails_played}
 use Rattle.std.specs.Prelude.{◌≡◌, ◌+◌, ◌<◌, ◌≤◌}
 
--- units that all fail are the same wherever they begin
+-- units that all fail give the same result from any sector
 fails_anywhere : (units : List BlockUnit) (n number first start : ℕ) (values : Values) → units_in Fails n ≡ units → (played number first units values ≡ played number start units values) × (played_answers number first units values ≡ played_answers number start units values)
 fails_anywhere units n number first start values is = rw (← is) (
   fails_played number first n values ∙ sym (fails_played number start n values),
@@ -17,7 +17,7 @@ fails_anywhere units n number first start values is = rw (← is) (
 is_past : (end start len : ℕ) → 1 ≤ len → end < start → nat_lt end (start + len) ≡ true
 is_past end start len some beyond = grind (arith, nat_tests)
 
--- a request that begins beyond its device fails as a whole, so it may be played from the device's end
+-- a request that begins beyond its device's end fails as a whole, so it can be played from the device's end
 pub played_from : (stack : Description) (op : Op) (device start len number : ℕ) (state : State) (values : Values) → 1 ≤ len
     → (played number (min start (device_len stack device)) (request_step stack op device start len state).units values ≡ played number start (request_step stack op device start len state).units values)
     × (played_answers number (min start (device_len stack device)) (request_step stack op device start len state).units values ≡ played_answers number start (request_step stack op device start len state).units values)
@@ -29,7 +29,7 @@ played_from stack op device start len number state values some = elim (cases_lt 
       let same : min start (device_len stack device) ≡ start = omega (arith, within) in rw same (refl, refl)
 ]
 
--- and so may the first of its units
+-- the first units of a request that begins beyond its device's end can be played from the device's end, too
 front_fails : (count n : ℕ) → (k : ℕ) × (units_in Fails k ≡ take count (units_in Fails n))
 front_fails zero n = (0, refl)
 front_fails (suc count) zero = (0, refl)
@@ -54,13 +54,13 @@ units_asked stack request device state = (step_for stack request device state).u
 abbrev held : Playing → Values
 held p = values_of p.values.disks.items
 
--- what units leave that are played from where a playback began
+-- the values after units that were played from where a playback began
 begun_values : (old begun ended : Playing) (number first : ℕ) (units : List BlockUnit) → begun ≡ record { values = old.values; number = number; next = first; runs = [] } → HasPlayed begun units ended
     → (disk sector : ℕ) → held ended disk sector ≡ played number first units (held old) disk sector
 begun_values old begun ended number first units begun_is has disk sector =
     cc (has.values_are disk sector)
 
--- the values that a playback leaves
+-- the values after a playback
 pub playback_values : (old begun ended new : Playing) (stack : Description) (request : Request) (device first : ℕ) (state : State) → first ≡ min request.start (device_len stack device)
     → begun ≡ record { values = old.values; number = request.number; next = first; runs = [] } → new.values ≡ ended.values → HasPlayed begun (units_asked stack request device state) ended
     → (disk sector : ℕ) → values_of new.values.disks.items disk sector ≡ played request.number request.start (units_asked stack request device state) (values_of old.values.disks.items) disk sector
@@ -68,7 +68,7 @@ playback_values old begun ended new stack request device first state first_is be
     let units = units_asked stack request device state in
     cc (begun_values old begun ended request.number first units begun_is has disk sector, (played_from stack request.op device request.start request.len request.number state (held old) request.at_least).0)
 
--- and those that one leaves that was halted
+-- the values after a playback that was halted
 front_values : (old begun ended : Playing) (stack : Description) (request : Request) (device count first : ℕ) (state : State) → first ≡ min request.start (device_len stack device)
     → begun ≡ record { values = old.values; number = request.number; next = first; runs = [] } → HasPlayed begun (halted_units stack request.op device request.start request.len count state) ended
     → (disk sector : ℕ) → held ended disk sector ≡ played request.number request.start (halted_units stack request.op device request.start request.len count state) (held old) disk sector
@@ -76,7 +76,7 @@ front_values old begun ended stack request device count first state first_is beg
     let units = halted_units stack request.op device request.start request.len count state in
     rw (← front_from stack request.op device request.start request.len count request.number state (held old) request.at_least, ← first_is) (begun_values old begun ended request.number first units begun_is has disk sector)
 
--- and what it answers
+-- the answers of a playback
 pub playback_answers : (old begun ended : Playing) (runs : List ValueRun) (stack : Description) (request : Request) (device first : ℕ) (state : State) → first ≡ min request.start (device_len stack device)
     → begun ≡ record { values = old.values; number = request.number; next = first; runs = [] } → runs ≡ ended.runs → HasPlayed begun (units_asked stack request device state) ended
     → flat runs ≡ played_answers request.number request.start (units_asked stack request device state) (values_of old.values.disks.items)

@@ -1,4 +1,4 @@
--- What a player has played.
+-- What a player has played of each kind of unit.
 use Rattle.dm_replay.proofs.Prelude.{ℕ, zero, suc, List, [], refl, sym, ap, ◌∙◌, arith, append-nil, sector_past, BlockUnit, ReadOf, WriteOf, Zeros, Drops, Fails, CopyOf, FillOf, units_in, Playing, Value, ValueRun, values_of, HasPlayed, played_both, CanCopyAtOnce, HoldOn, ranged, answers_in, first_answer, flat, run_answers, run_len, Answer, Gives, Failed, Values, played, played_answers}
 use Rattle.dm_replay.specs.declared.disk_values.DiskValues.{DiskValues}
 use Rattle.dm_replay.specs.declared.value.Value.TheVariants as value
@@ -23,7 +23,7 @@ run_answered old new run first n first_is len_is values_is runs_is next_is numbe
   number_same = number_is;
 }
 
--- units that change no values and answer this
+-- the player has played units that change no values, with this run as their answers
 answered : (old new : Playing) (units : List BlockUnit) (first : Answer) (n : ℕ) → HasAnswered old new first n → played old.number old.next units (held old) ≡ held old → played_answers old.number old.next units (held old) ≡ answers_in first n → sector_past units old.next ≡ old.next + n → HasPlayed old units new
 answered old new units first n has none answers past = record {
   values_are = λ disk sector. cc (has.values_same, none);
@@ -99,6 +99,6 @@ pub copy_more : (old now new : Playing) (disk start to to_start m n k : ℕ) →
 copy_more old now new disk start to to_start m n k is first second =
     rw (← (sym (copies-append disk start to to_start m n) ∙ ap (units_in (CopyOf disk start to to_start)) is)) (played_both old now new (units_in (CopyOf disk start to to_start) m) (units_in (CopyOf disk (start + m) to (to_start + m)) n) first second)
 
--- no units are played where nothing changes
+-- if nothing changed, no units were played
 pub none_played : (old : Playing) (unit : BlockUnit) (n : ℕ) → n ≡ 0 → HasPlayed old [] old → HasPlayed old (units_in unit n) old
 none_played old unit n none nothing = rw none nothing

@@ -1,4 +1,4 @@
--- The words and lemmas that proofs cite, from one place.
+-- Names and lemmas that proofs cite, re-exported from one place.
 pub use Rattle.dm_map.proofs.ChunkOutcomes.{Fault, IsRead, Nothing, Sector, is_read}
 pub use Rattle.dm_map.specs.Prelude.{AreAlone, AreAlwaysExact, AreExact, AreNeverLost, BlockUnit, CopyOf, Drops, Fails, FillOf, IsAmple, IsFitting, IsIntact, IsOnDisk, IsOnDisks, IsOwnAt, MapperView, OfBeginning, ReadOf, Rows, State, Stays, WriteOf, Zeros, after_played, answers, content, first_unit, halted_state, halted_units, keep, left_state, next_unit, piece_len, played_of, read, request_step, sector_after, sector_step, start_state, step_for, steps, stored, units_in, units_of, value_read}
 unfoldable pub use Rattle.dm_map.specs.Prelude.{sector_past}

@@ -26,7 +26,7 @@ ranged_none values on start first disk sector = outside on start disk sector (fu
     outside : (on start disk sector : ℕ) (a b : Value) → cond (disk == on && (nat_le start sector && nat_lt sector (start + 0))) a b ≡ b
     outside on start disk sector a b = grind (arith, nat_tests)
 
--- a sector and the range after it are a longer range
+-- a sector stored before a range makes the range longer by one
 pub ranged_step : (values : Values) (on at n : ℕ) (first : Value) (disk sector : ℕ) → ranged (stored values on at first) on (suc at) n (next_value first) disk sector ≡ ranged values on at (suc n) first disk sector
 ranged_step values on at n first disk sector =
     join on at n disk sector first (further first (sector - at)) (further (next_value first) (sector - suc at)) (values disk sector)
@@ -44,7 +44,7 @@ stored_other values on at new disk sector differ = other on at disk sector new (
     other : (on at disk sector : ℕ) (a b : Value) → (disk ≡ on → sector ≡ at → ⊥) → cond (disk == on && sector == at) a b ≡ b
     other on at disk sector a b differ = grind (arith, nat_tests)
 
--- What goes on from a value
+-- Values that count up from a first value
 
 pub hold_here : (values : Values) (disk start n : ℕ) (first : Value) → HoldOn values disk start (suc n) first → values disk start ≡ first
 hold_here values disk start n first hold = ap (values disk) (let e : start ≡ start + 0 = omega arith in e) ∙ hold 0 (omega arith) ∙ further_none first

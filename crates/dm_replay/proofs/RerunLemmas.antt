@@ -1,4 +1,4 @@
--- The state that a halted request leaves, by mapping its whole sectors once more.
+-- The state after a halted request is the one after its whole sectors are mapped again.
 use Rattle.dm_replay.proofs.Prelude.{ℕ, zero, suc, Bool, true, false, cond, List, [], get_or, length, min, nat_lt, replicate, take, refl, sym, ap, ◌∙◌, arith, nat_tests, take_more, Op, Device, Description, device_len, answers, sector_after, sector_past, MapperView, request_step, sector_step, State, start_state, keep, steps, halted_state, halted_units, BlockUnit, Fails, KeptWrite, rerun_from, rerun_step, with_request}
 use Rattle.dm_table.specs.declared.requests.request.Op.TheVariants as ops
 use Rattle.dm_stack.specs.declared.checks.graph.TheConstants.{MOST_DEPTH}
@@ -24,7 +24,7 @@ read_mapped stack device start len state = by_end (nat_lt (device_len stack devi
     by_end true = refl
     by_end false = reads_keep stack device start len state
 
--- The sectors past units, from a sector on
+-- The next sector to answer after units, from any sector on
 
 past_shift : (units : List BlockUnit) (a b : ℕ) → sector_past units (a + b) ≡ a + sector_past units b
 unfolding sector_past
@@ -38,16 +38,16 @@ past_shift (unit ∷ units) a b = ap (sector_past units) (one_shift (answers uni
 pub past_from : (units : List BlockUnit) (sector : ℕ) → sector_past units sector ≡ sector + sector_past units 0
 past_from units sector = ap (sector_past units) (let e : sector ≡ sector + 0 = omega arith in e) ∙ past_shift units sector 0
 
--- The sectors that were whole
+-- The whole sectors of a halted request
 
--- a request lies inside its device as far as it was played
+-- a request lies inside its device if its end isn't past the device's end
 inside : (end start len : ℕ) → nat_lt end (start + len) ≡ false → start + len ≤ end
 inside end start len is = grind (arith, nat_tests)
 
 not_past : (end start len : ℕ) → start + len ≤ end → nat_lt end (start + len) ≡ false
 not_past end start len fits = grind (arith, nat_tests)
 
--- it goes on from its start
+-- the next sector to answer of a request inside its device counts from the request's start
 pub next_inside : (end start len next : ℕ) (units : List BlockUnit) → next ≡ sector_past units (min start end) → start + len ≤ end → next ≡ start + sector_past units 0
 next_inside end start len next units is fits = is ∙ ap (sector_past units) (let e : min start end ≡ start = omega (arith, fits) in e) ∙ past_from units start
 
@@ -79,9 +79,9 @@ rerun_halted stack op device start len count next whole state is few whole_is = 
         let within : start + whole ≤ end = omega (arith, fits, same, few) in
         rw (not_past end start whole within, same)
 
--- Writes in a row
+-- Writes mapped one after the other
 
--- a mapper in the state after writes, and a sink of its stack
+-- a mapper in the state after these writes, and a sink of its stack
 pub record IsRerun (stack sink : Description) (mapper : MapperView) (all : List KeptWrite) : Type 0 where
   pub going : mapper.failed ≡ false
   pub of : mapper.stack ≡ stack
@@ -93,7 +93,7 @@ unfolding rerun_from
 rerun-push stack state [] kept = refl
 rerun-push stack state (first ∷ all) kept = rerun-push stack (rerun_step stack first state) all kept
 
--- of one request more, which may be a read
+-- the state after one more request, which may be a read, by mapping the kept writes again
 pub rerun_more : (stack : Description) (start : State) (op : Op) (write : KeptWrite) (writes : List KeptWrite) (before after : State) → rerun_from stack start writes ≡ before → (request_step stack op write.device write.start write.whole before).state ≡ after
     → rerun_from stack start (with_request op write writes) ≡ after
 rerun_more stack start ops.Read write writes before after is step = is ∙ sym (read_mapped stack write.device write.start write.whole before) ∙ step

@@ -1,9 +1,9 @@
--- Runs in a row, and what they answer.
+-- Consecutive runs, and what they answer.
 use Rattle.dm_replay.proofs.Prelude.{ℕ, zero, suc, List, [], append_assoc, refl, sym, ap, ◌∙◌, arith, AllByRecursion, flat_map-append, append-nil, ValueRun, NoneJoins, AreMaximal, Joins, answers_in, first_answer, flat, further_answer, next_answer, run_answers, run_len, Answer, Gives, Failed}
 use Rattle.dm_replay.proofs.RangeLemmas.{further_next, further_none}
 use Rattle.std.specs.Prelude.{◌≡◌, ◌+◌, ◌<◌, ◌∷◌, ◌++◌}
 
--- What they answer
+-- What runs answer
 
 pub answer_next : (first : Answer) (n : ℕ) → further_answer (next_answer first) n ≡ further_answer first (suc n)
 answer_next (Gives first) n = ap Gives (further_next first n)
@@ -21,7 +21,7 @@ answers_in-append first (suc m) n =
 pub flat_one : (runs : List ValueRun) (run : ValueRun) → flat (runs ++ run ∷ []) ≡ flat runs ++ run_answers run
 flat_one runs run = rw (← append-nil (run_answers run)) (flat_map-append run_answers runs (run ∷ []))
 
--- a run that another one joins answers what both do
+-- a run lengthened by one that continues it answers what both do
 pub flat_longer : (runs : List ValueRun) (last run longer : ValueRun) → Joins last run → first_answer longer ≡ first_answer last → run_len longer ≡ run_len last + run_len run
     → flat (runs ++ longer ∷ []) ≡ flat (runs ++ last ∷ []) ++ run_answers run
 flat_longer runs last run longer joins first len =
@@ -49,7 +49,7 @@ apart_push [] last run apart differ = (differ, tt)
 apart_push (first ∷ []) last run apart differ = (apart.0, (differ, tt))
 apart_push (first ∷ after ∷ runs) last run apart differ = (apart.0, apart_push (after ∷ runs) last run apart.1 differ)
 
--- only where the last run begins plays a part
+-- whether a last run continues the one before depends only on its first answer
 apart_longer : (runs : List ValueRun) (last longer : ValueRun) → NoneJoins (runs ++ last ∷ []) → first_answer longer ≡ first_answer last → NoneJoins (runs ++ longer ∷ [])
 apart_longer [] last longer apart first = tt
 apart_longer (run ∷ []) last longer apart first = (λ joins. apart.0 (joins ∙ first), tt)

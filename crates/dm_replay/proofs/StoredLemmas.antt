@@ -7,7 +7,7 @@ use Rattle.dm_replay.specs.declared.value.Value.TheVariants as value
 use Rattle.dm_replay.proofs.RangeLemmas.{further_twice}
 use Rattle.std.specs.Prelude.{◌≡◌, ◌⊎◌, ◌+◌, ◌-◌, ◌<◌, ◌≤◌, ◌^◌, ◌∷◌, ◌&&◌}
 
--- a map with another value, or none, at a key
+-- a map with another range, or none, at one key
 pub record Sets (old new : BTreeMap ℕ RangeValues) (key : ℕ) (to : Option RangeValues) : Type 0 where
   pub here : get nat_cmp new key ≡ to
   pub others : (q : ℕ) → (q ≡ key → ⊥) → get nat_cmp new q ≡ get nat_cmp old q
@@ -29,7 +29,7 @@ below_from a b e = grind (arith, common_steps)
 pub not_above : (a b : ℕ) → a ≤ b → is_gt (nat_cmp a b) ≡ false
 not_above a b low = grind (arith, common_steps)
 
--- What a look-up finds is one
+-- A look-up finds at most one range
 
 pub is_some : (o : Option RangeValues) (a : RangeValues) → o ≡ Some a → IsSome o
 is_some None a e = absurd cc
@@ -64,9 +64,9 @@ spanned_out stored start len first sector out = by_test (nat_le start sector && 
   by_test true e = absurd (out (has_from start len sector e) (has_before start len sector e))
   by_test false e = rw e
 
--- What ranges show
+-- What ranges hold
 
--- a range of a list that has a sector
+-- a range in a list that contains the sector, with the value that it holds there
 record HasIt (entries : List (ℕ × RangeValues)) (sector : ℕ) (stored : Value) : Type 0 where
   at : ℕ
   start : ℕ
@@ -86,7 +86,7 @@ unfolding stored_in
 found_in [] sector stored e = absurd cc
 found_in (entry ∷ later) sector stored e = found_at entry later sector stored (λ is. found_in later sector stored is) (nat_le entry.0 sector && nat_lt sector (entry.0 + entry.1.len)) refl e
 
--- none of a list has it
+-- the list's range at this start doesn't contain the sector
 
 abbrev NoneHas : List (ℕ × RangeValues) → (sector start : ℕ) → RangeValues → Type 0
 NoneHas entries sector start range = lookup (is_at (nat_cmp start)) entries ≡ Some range → start ≤ sector → sector < start + range.len → ⊥
@@ -113,7 +113,7 @@ unfolding stored_in
 none_in [] sector none start range = λ is from before. absurd cc
 none_in (entry ∷ later) sector none start range = none_at entry later sector start range (λ rest. none_in later sector rest start range) (nat_le entry.0 sector && nat_lt sector (entry.0 + entry.1.len)) refl none
 
--- of two ranges that have a sector there is one
+-- two ranges that contain the same sector begin at the same sector
 one_start : (ranges : BTreeMap ℕ RangeValues) (sector a b : ℕ) (r q : RangeValues) → AreApart ranges → get nat_cmp ranges a ≡ Some r → get nat_cmp ranges b ≡ Some q → a ≤ sector → sector < a + r.len → b ≤ sector → sector < b + q.len → a ≡ b
 one_start ranges sector a b r q are is_r is_q from_a before_a from_b before_b = by_order (cases_order a b) where
   by_order : (a ≡ b) ⊎ ((a < b) ⊎ (b < a)) → a ≡ b
@@ -149,7 +149,7 @@ view_is ranges stored are shows sector = by_case (stored_in ranges.entries secto
       let it = found_in ranges.entries sector v e in
       ap Some it.value_is ∙ sym (shows.hold it.start it.range sector (btree_map_get_place nat_cmp_total ranges it.at it.start it.range are.ordered it.is) it.from it.before)
 
--- Fewer ranges
+-- Maps with fewer ranges
 
 pub fewer_apart : (old new : BTreeMap ℕ RangeValues) → AreApart old → IsOrdered nat_cmp new → ((at : ℕ) (range : RangeValues) → get nat_cmp new at ≡ Some range → get nat_cmp old at ≡ Some range) → AreApart new
 fewer_apart old new are ordered only = record {
@@ -173,7 +173,7 @@ cleared_more first old new start end key were from before set = record {
 
 -- Sectors in which nothing is stored
 
--- those after the end of the last range that begins before their end
+-- nothing is stored from `start` to `end` if the last range that begins before `end` ends before `start`
 module _ (ranges : BTreeMap ℕ RangeValues) (start end at : ℕ) (range : RangeValues) (are : AreApart ranges) (last : IsLastBefore ranges end at range) (less : at < start) (ends : range.len ≤ start - at) (order : start < end) where
   ends_by : (other : ℕ) (r : RangeValues) → get nat_cmp ranges other ≡ Some r → other < end → other + r.len ≤ start
   ends_by other r is before = elim (cases_eq other at) [
@@ -193,7 +193,7 @@ module _ (ranges : BTreeMap ℕ RangeValues) (start end at : ℕ) (range : Range
     is_cleared = record { some = λ other r is out. is; only = λ other r is. is };
   }
 
--- all before an end, where no range begins
+-- nothing is stored before `end` if no range begins before it
 pub room_in_all : (ranges : BTreeMap ℕ RangeValues) (start end : ℕ) → NoneFrom ranges 0 end → start < end → IsRoomMade ranges ranges start end
 room_in_all ranges start end none order = record {
   cut = ranges;
@@ -203,7 +203,7 @@ room_in_all ranges start end none order = record {
   is_cleared = record { some = λ other r is out. is; only = λ other r is. is };
 }
 
--- A range in two parts
+-- A range cut in two
 
 pub record AreParts (old between new : BTreeMap ℕ RangeValues) (start sector : ℕ) (range front rest : RangeValues) : Type 0 where
   pub are : AreApart old
@@ -218,7 +218,7 @@ pub record AreParts (old between new : BTreeMap ℕ RangeValues) (start sector :
   pub rest_len : sector + rest.len ≡ start + range.len
   pub rest_first : rest.first ≡ further range.first (sector - start)
 
--- what is in the map then: the rest, the front, or what was there before
+-- what the map holds after the cut: the second part, the first part, or a range that was there before
 data Part (old : BTreeMap ℕ RangeValues) (start sector : ℕ) (front rest : RangeValues) (at : ℕ) (range : RangeValues) : Type 0 where
   IsRest : at ≡ sector → range ≡ rest → Part old start sector front rest at range
   IsFront : at ≡ start → range ≡ front → Part old start sector front rest at range
@@ -238,7 +238,7 @@ module _ (old between new : BTreeMap ℕ RangeValues) (start sector : ℕ) (rang
   len_is : (a b : RangeValues) → a ≡ b → a.len ≡ b.len
   len_is a b e = rw e
 
-  -- no other range begins where the range is, and what begins before it ends there
+  -- no other range begins inside the cut range, and what begins before it ends before it
   other_before : (at : ℕ) (r : RangeValues) → (at ≡ start → ⊥) → get nat_cmp old at ≡ Some r → at < sector → at + r.len ≤ start
   other_before at r other is less = by_order (cases_order at start) where
     by_order : (at ≡ start) ⊎ ((at < start) ⊎ (start < at)) → at + r.len ≤ start
@@ -331,7 +331,7 @@ module _ (old between new : BTreeMap ℕ RangeValues) (start sector : ℕ) (rang
   start_less : start < sector
   start_less = omega (arith, p.meets, p.are.some start range p.is)
 
-  -- a range after the first one is after the second
+  -- a range that begins after the joined one begins after its end
   other_after : (at : ℕ) (r : RangeValues) → get nat_cmp new at ≡ Some r → (at ≡ start → ⊥) → start < at → sector + after.len ≤ at
   other_after at r is other over = by_order (cases_order at sector) where
     was : get nat_cmp old at ≡ Some r
@@ -392,7 +392,7 @@ module _ (old between new : BTreeMap ℕ RangeValues) (start sector : ℕ) (rang
         none start joined p.set_joined.here (omega (arith, same, from, start_less)) (omega (arith, same, before, len, p.len))
     bare_at s none a r is from before (inr other) (inr not_after) = none a r (p.set_joined.others a other ∙ p.set_none.others a not_after ∙ is) from before
 
--- A range in the place of those that were cleared
+-- A range put in the place of those that were cleared
 
 pub record IsPut (old cleared new : BTreeMap ℕ RangeValues) (start : ℕ) (range : RangeValues) : Type 0 where
   pub are : AreApart cleared
@@ -475,7 +475,7 @@ module _ (old cleared new : BTreeMap ℕ RangeValues) (start : ℕ) (range : Ran
         let not_in = was_out s away a r is from before in
         none a r (p.set.others a (λ same. not_in (omega (arith, same)) (omega (arith, same, p.some))) ∙ p.is_cleared.some a r is not_in) from before)
 
--- the first values of what is shown, on a disk
+-- the first values of a range that contains the sector are the first values on the disk
 
 pub first_held : (ranges : BTreeMap ℕ RangeValues) (disk start len from : ℕ) (range result : RangeValues) → AreApart ranges → Has ranges start from range → 1 ≤ result.len → result.len ≤ len → start - from + result.len ≤ range.len → result.first ≡ further range.first (start - from)
     → AreFirst (λ (on sector : ℕ). held on (stored_in ranges.entries sector) sector) disk start len result
@@ -489,13 +489,13 @@ first_held ranges disk start len from range result are has some most within firs
 pub bare_hold : (ranges : BTreeMap ℕ RangeValues) (disk start n : ℕ) → AreApart ranges → ((i : ℕ) → i < n → IsBare ranges (start + i)) → HoldOn (λ (on sector : ℕ). held on (stored_in ranges.entries sector) sector) disk start n (value.Old disk start)
 bare_hold ranges disk start n are bare i less = rw ((view_shows ranges are).bare (start + i) (bare i less))
 
--- Disks
+-- Disks on which nothing is stored
 
 pub none_hold : (disks : List (List (ℕ × RangeValues))) (disk start n : ℕ) → length disks ≤ disk → HoldOn (values_of disks) disk start n (value.Old disk start)
 unfolding stored_in
 none_hold disks disk start n past i less = rw (get_or_past disks disk [] past)
 
--- a disk of which nothing is stored
+-- with no ranges at all, every sector holds its old value
 pub nothing_held : (disk sector : ℕ) → values_of [] disk sector ≡ value.Old disk sector
 unfolding stored_in
 nothing_held disk sector = ap (λ (entries : List (ℕ × RangeValues)). held disk (stored_in entries sector) sector) (get_or_past [] disk [] (omega arith))

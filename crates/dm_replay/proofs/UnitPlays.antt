@@ -1,4 +1,4 @@
--- What units in a row do to the values of disks, and answer.
+-- What consecutive units change in the values of disks, and what they answer.
 use Rattle.dm_replay.proofs.Prelude.{ℕ, zero, suc, [], refl, sym, ◌∙◌, arith, sector_past, stored, ReadOf, WriteOf, Zeros, Drops, Fails, CopyOf, FillOf, units_in, Value, CanCopyAtOnce, HoldOn, ranged, AreSame, answers_in, Gives, Failed, Values, next_value, played, played_answers}
 use Rattle.dm_map.specs.own.Contents.{played as contents_played}
 use Rattle.dm_replay.specs.declared.value.Value.TheVariants as value
@@ -27,7 +27,7 @@ unfolding contents_played
 fails_played request sector zero values = refl
 fails_played request sector (suc n) values = fails_played request (suc sector) n values
 
--- What they answer
+-- What consecutive units answer
 
 pub reads_answer : (request sector disk start n : ℕ) (values : Values) (first : Value) → HoldOn values disk start n first → played_answers request sector (units_in (ReadOf disk start) n) values ≡ answers_in (Gives first) n
 unfolding played_answers
@@ -66,7 +66,7 @@ unfolding played_answers
 copies_answer request sector disk start to to_start zero values = refl
 copies_answer request sector disk start to to_start (suc n) values = copies_answer request sector disk (suc start) to (suc to_start) n (stored values to to_start (values disk start))
 
--- The sector that is answered after them
+-- The next sector to answer after consecutive units
 
 next_later : (sector n : ℕ) → suc sector + n ≡ sector + suc n
 next_later sector n = omega arith
@@ -109,7 +109,7 @@ unfolding sector_past
 copies_past disk start to to_start zero sector = refl
 copies_past disk start to to_start (suc n) sector = copies_past disk (suc start) to (suc to_start) n sector
 
--- Units that store
+-- Units that store values
 
 pub writes_played : (request sector on at n : ℕ) (values : Values) → AreSame (played request sector (units_in (WriteOf on at) n) values) (ranged values on at n (value.Wrote request sector))
 unfolding contents_played

@@ -1,4 +1,4 @@
--- The words of std and of the crates below that this crate cites, and its types, from one place.
+-- Names of std, of lower crates and of this crate's types, re-exported from one place.
 pub use Rattle.dm_map.specs.Prelude.{BlockUnit, CopyOf, Drops, Fails, IsAmple, IsFitting, IsIntact, MapperView, Moment, ReadOf, Rows, State, WriteOf, Zeros, after_asked, asked_units, past-append, request_step, rows_in, sector_after, start_state, unit_cong}
 unfoldable pub use Rattle.dm_map.specs.Prelude.{sector_past}
 pub use Rattle.dm_replay.specs.declared.kept_write.KeptWrite.{KeptWrite}

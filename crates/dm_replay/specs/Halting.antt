@@ -5,7 +5,7 @@ use Rattle.dm_replay.specs.OfDisks.{AreUnitsOf}
 use Rattle.dm_replay.specs.Player.{HasPlayed}
 use Rattle.std.specs.Prelude.{◌≡◌, ◌+◌, ◌<◌}
 
--- these units, on the disks of its stack, of those that were left
+-- the player played these units, which are on the disks of its stack, and counted them off `left`
 pub record HasTaken (old : Halting) (units : List BlockUnit) (new : Halting) : Type 0 where
   pub played : HasPlayed old.player.playing units new.player.playing
   pub of : AreUnitsOf (length old.player.stack.now.disks) units
@@ -13,7 +13,7 @@ pub record HasTaken (old : Halting) (units : List BlockUnit) (new : Halting) : T
   pub stack : new.player.stack.now ≡ old.player.stack.now
   pub halted : new.halted ≡ old.halted
 
--- of these units the first ones, as many as were left
+-- the player halted: it played as many of these units as were left, and there were more
 pub record HasHalted (old : Halting) (units : List BlockUnit) (new : Halting) : Type 0 where
   pub played : HasPlayed old.player.playing (take old.left units) new.player.playing
   pub of : AreUnitsOf (length old.player.stack.now.disks) (take old.left units)

@@ -1,4 +1,4 @@
--- The playback of a request: who can play it, and what comes of it.
+-- The playback of a request: who can play it, and what it leaves.
 use Rattle.dm_replay.specs.Base.{ℕ, false, List, length, Request, Description, MapperView, BlockUnit}
 use Rattle.dm_replay.specs.declared.player.Player.{Player}
 use Rattle.dm_replay.specs.OfDisks.{AreValuesOf}
@@ -6,7 +6,7 @@ use Rattle.dm_replay.specs.Stored.{values_of}
 use Rattle.dm_replay.specs.Values.{played}
 use Rattle.std.specs.Prelude.{◌≡◌, ◌<◌}
 
--- a mapper that has not failed, and a player, of one stack: it has the device, and the disks that the values of the player name
+-- a mapper that has not failed, and a player of the same stack; the stack has the device, and the disks that the player's values name
 pub record CanPlay (mapper : MapperView) (player : Player) (id : ℕ) : Type 0 where
   pub going : mapper.failed ≡ false
   pub stack : player.stack.now ≡ mapper.stack

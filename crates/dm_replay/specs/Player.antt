@@ -6,7 +6,7 @@ use Rattle.dm_replay.specs.Runs.{flat}
 use Rattle.dm_replay.specs.Values.{played, played_answers}
 use Rattle.std.specs.Prelude.{◌≡◌, ◌++◌}
 
--- these units were played, and answered
+-- the player played these units and answered them
 pub record HasPlayed (old : Playing) (units : List BlockUnit) (new : Playing) : Type 0 where
   pub values_are : (disk sector : ℕ) → values_of new.values.disks.items disk sector ≡ played old.number old.next units (values_of old.values.disks.items) disk sector
   pub answers_are : flat new.runs ≡ flat old.runs ++ played_answers old.number old.next units (values_of old.values.disks.items)

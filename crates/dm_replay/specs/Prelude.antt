@@ -1,4 +1,4 @@
--- The words that contracts cite, here and in crates above, from one place.
+-- Names that contracts cite, here and in crates above, re-exported from one place.
 pub use Rattle.dm_map.specs.Prelude.{FillOf, IsOnDisk, IsOnDisks, halted_units, piece_len, step_for, units_in, units_of}
 pub use Rattle.dm_replay.specs.Base.{AllByRecursion, AreTops, CopyOf, IsFitting, IsIntact, IsTidy, IsTop, None, OnFalse, OnTrue, Option, ReadOf, Some, WriteOf, [], code, decimal, device_len, false, is_same, length, nat_lt, position, start_state, true, ℕ}
 unfoldable pub use Rattle.dm_replay.specs.Base.{sector_past}

@@ -1,4 +1,4 @@
--- A replay, and what its results say.
+-- A replay, and what its results mean.
 use Rattle.dm_replay.specs.Base.{ℕ, Bool, true, false, List, [], None, Some, length, position, AllByRecursion, Request, AreTops, IsClash, IsTidy, IsTop, claims, Description, device_id, device_len, is_same, MapperView, IsAmple, IsIntact, IsFitting, State, start_state, KeptWrite, ValueRun}
 use Rattle.dm_table.specs.declared.requests.request.Op.TheVariants.{Read}
 use Rattle.dm_stack.specs.declared.claims.clash.Clash.{Clash}
@@ -14,47 +14,48 @@ use Rattle.dm_replay.specs.Runs.{flat}
 use Rattle.dm_replay.specs.Stored.{values_of}
 use Rattle.std.specs.Prelude.{◌≡◌, ◌+◌, ◌<◌, ◌≤◌, ◌∷◌, ◌++◌}
 
--- a replay: its stack, the state that it began from, the requests that it accepted, and whether it failed: it was out of memory
+-- a replay: its stack, the state that it started in, the requests that it accepted, and whether it failed because memory ran out
 pub record Replaying : Type 0 where
   pub stack : Description
   pub start : State
   pub asked : List Asked
   pub failed : Bool
 
--- a replay from a state that was asked nothing yet
+-- a replay that starts in this state, with no requests yet
 abbrev pub replay_from : Description → (start : State) → Replaying
 replay_from of start = record { stack = of; start = start; asked = []; failed = false }
 
--- a replay where no chunk was taken, and nothing was asked yet
+-- a replay in which no snapshot has any exceptions yet, with no requests yet
 abbrev pub new_replay : Description → Replaying
 new_replay of = replay_from of (start_state of)
 
--- a request of a device that is played to its end
+-- a request to the device with this id, played to its end
 abbrev pub whole_request : Request → (id : ℕ) → Asked
 whole_request request id = kept_request request id None
 
--- a request that is played to its end, of the device that it names
+-- a request to the device that it names, played to its end
 abbrev pub asked_request : Description → Request → Asked
 asked_request stack request = whole_request request (device_id stack request.device.now)
 
--- a request that is halted after this many units
+-- a request to the device that it names, halted after this many units
 abbrev pub halted_request : Description → Request → (units : ℕ) → Asked
 halted_request stack request units = kept_request request (device_id stack request.device.now) (Some units)
 
--- a top device has the name
+-- a top device has this name
 pub record HasTop (of : Description) (name : List ℕ) : Type 0 where
   pub id : ℕ
   pub named : position (λ device. is_same device.name name) of.devices ≡ Some id
   pub top : IsTop of id
 
--- why there is no new replay: a clash, or no memory
+-- why a replay can't start: two claims clash, or memory ran out
 abbrev pub IsNotBegun : ReplayFault → Description → Type 0
 IsNotBegun faults.Untidy of = (clash : Clash) × IsClash (claims of) clash
 IsNotBegun faults.Memory of = Unit {0}
 IsNotBegun faults.NotTop of = ⊥
 IsNotBegun faults.Stopped of = ⊥
 
--- a request was answered by these runs after those before it: a read by its device's row, or errors, and without errors where the stack can lose nothing, no snapshot was lost at the start, and the read doesn't pass the device's end. It is one of the requests then
+-- a request was answered with these runs, after those before it. A read answers its device's row, or errors; if the stack can't lose anything, no snapshot was lost at
+-- the start and the read ends within the device, it answers without errors. The request is added to those that were accepted
 pub record IsAnswered (old new : Replaying) (request : Asked) (runs : List ValueRun) : Type 0 where
   pub answers : AreRunsOf (length old.stack.disks) (asked_answers old.stack (world_after old.stack old.start old.asked) request) runs
   pub own : request.op ≡ Read → AreOfRow (rows_after old.stack old.start old.asked) request.device request.start (flat runs)
@@ -63,35 +64,35 @@ pub record IsAnswered (old new : Replaying) (request : Asked) (runs : List Value
   pub going : old.failed ≡ false
   pub goes_on : new.failed ≡ false
 
--- why a request was not answered, where this says that it is of a top device, and what the replay is then
+-- why a request was not answered, and the replay after that; `IsOfTop` says that its device is a top device
 abbrev pub IsUnanswered : ReplayFault → (IsOfTop : Type 0) → (old new : Replaying) → Type 0
 IsUnanswered faults.Untidy IsOfTop old new = ⊥
 IsUnanswered faults.Memory IsOfTop old new = (old.failed ≡ false) × IsOfTop × (new.failed ≡ true)
 IsUnanswered faults.NotTop IsOfTop old new = (old.failed ≡ false) × (IsOfTop → ⊥) × (new ≡ old)
 IsUnanswered faults.Stopped IsOfTop old new = (old.failed ≡ true) × (new ≡ old)
 
--- why a request for the device of a name was not answered, and what the replay is then
+-- why a request to the device with this name was not answered, and the replay after that
 abbrev pub IsNotAnswered : ReplayFault → List ℕ → (old new : Replaying) → Type 0
 IsNotAnswered fault name old new = IsUnanswered fault (HasTop old.stack name) old new
 
--- why a request for the device of a name was not halted: the replay is spent
+-- why a request to the device with this name was not halted; the replay can't be used after that
 abbrev pub IsNotHalted : ReplayFault → List ℕ → Replaying → Type 0
 IsNotHalted faults.Untidy name old = ⊥
 IsNotHalted faults.Memory name old = (old.failed ≡ false) × HasTop old.stack name
 IsNotHalted faults.NotTop name old = (old.failed ≡ false) × (HasTop old.stack name → ⊥)
 IsNotHalted faults.Stopped name old = old.failed ≡ true
 
--- a write to a top device of the stack, of which no more sectors are whole than a request has
+-- a write to a top device of the stack, with at most as many whole sectors as a request can have
 pub record IsKept (of : Description) (kept : KeptWrite) : Type 0 where
   pub there : kept.device < length of.devices
   pub top : IsTop of kept.device
   pub few : kept.whole ≤ MOST_SECTORS
 
--- requests of top devices
+-- all these requests are to top devices
 abbrev pub AreOfTops : Description → List Asked → Type 0
 AreOfTops of all = AllByRecursion (λ asked. IsTop of asked.device) all
 
--- what a replay keeps is the world after its requests; where its writes are mapped once more, they leave its state
+-- what a replay keeps agrees with the world after its requests, and mapping its writes again from the start leaves the same state
 pub record IsGoing (of : Description) (start : State) (mapper : MapperView) (disks : Description) (ranges : List (List (ℕ × RangeValues))) (all : List Asked) (writes : List KeptWrite) : Type 0 where
   pub maps : mapper.failed ≡ false
   pub mapper_stack : mapper.stack ≡ of
@@ -103,7 +104,7 @@ pub record IsGoing (of : Description) (start : State) (mapper : MapperView) (dis
   pub kept_are : AllByRecursion (IsKept of) writes
   pub rerun_is : rerun_from of start writes ≡ (world_after of start all).state
 
--- unless it failed; no claims of its stack meet, which devices are top is noted, and the stack can be in the state that it began from
+-- a replay of a stack without clashing claims: its top devices are noted, its start state fits the stack, and unless it failed, what it keeps is right
 pub record IsReplay (of : Description) (start : State) (tops : List Bool) (mapper : MapperView) (disks : Description) (ranges : List (List (ℕ × RangeValues))) (all : List Asked) (writes : List KeptWrite) (ended : Bool) : Type 0 where
   pub tidy : IsTidy of
   pub tops_are : AreTops of tops

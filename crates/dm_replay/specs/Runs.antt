@@ -1,11 +1,11 @@
--- Runs of answers: consecutive sectors whose answers go on, as one.
+-- Runs of answers: consecutive sectors whose answers count up, as one run.
 use Rattle.dm_replay.specs.Base.{ℕ, zero, suc, List, [], AllByRecursion, flat_map, ValueRun}
 use Rattle.dm_replay.specs.declared.value.Value.TheVariants as value
 use Rattle.dm_replay.specs.declared.value_run.ValueRun.TheVariants as runs
 use Rattle.dm_replay.specs.Values.{Answer, Gives, Failed, next_value, further}
 use Rattle.std.specs.Prelude.{◌≡◌, ◌<◌, ◌∷◌}
 
--- the answer of a run's first sector, and how many sectors it has
+-- the answer of a run's first sector
 abbrev pub first_answer : ValueRun → Answer
 first_answer (runs.Old disk start len) = Gives (value.Old disk start)
 first_answer (runs.Wrote request start len) = Gives (value.Wrote request start)
@@ -19,40 +19,40 @@ run_len (runs.Wrote request start len) = len
 run_len (runs.Zero len) = len
 run_len (runs.Error len) = len
 
--- the answer of the next sector, and of that len sectors further on, where they go on from an answer
+-- the answer of the next sector, if the answers count up from this one
 abbrev pub next_answer : Answer → Answer
 next_answer (Gives first) = Gives (next_value first)
 next_answer Failed = Failed
 
--- the answer of a sector that lies this much further on in a run
+-- the answer of the sector `len` sectors further on in a run
 abbrev pub further_answer : Answer → (len : ℕ) → Answer
 further_answer (Gives first) len = Gives (further first len)
 further_answer Failed len = Failed
 
--- len answers, each going on from the one before
+-- `len` answers that count up from `first`
 abbrev pub answers_in : Answer → (len : ℕ) → List Answer
 answers_in first zero = []
 answers_in first (suc len) = first ∷ answers_in (next_answer first) len
 
--- the answers of the sectors of a run, in their order
+-- the answers of a run's sectors, in order
 abbrev pub run_answers : ValueRun → List Answer
 run_answers run = answers_in (first_answer run) (run_len run)
 
--- the answers of runs, sector by sector
+-- the answers of all runs' sectors, in order
 abbrev pub flat : List ValueRun → List Answer
 flat all = flat_map run_answers all
 
--- the second run goes on where the first ends, so that they could be one
+-- the second run continues the first, so that both could be one
 abbrev pub Joins : ValueRun → ValueRun → Type 0
 Joins run after = further_answer (first_answer run) (run_len run) ≡ first_answer after
 
--- no run joins the one before it
+-- no run continues the one before it
 abbrev pub NoneJoins : List ValueRun → Type 0
 NoneJoins [] = Unit {0}
 NoneJoins (run ∷ []) = Unit {0}
 NoneJoins (run ∷ after ∷ rest) = (Joins run after → ⊥) × NoneJoins (after ∷ rest)
 
--- maximal runs: none is empty, and none joins the one before it
+-- maximal runs: none is empty, and none continues the one before it
 pub record AreMaximal (all : List ValueRun) : Type 0 where
   pub some : AllByRecursion (λ run. 0 < run_len run) all
   pub apart : NoneJoins all

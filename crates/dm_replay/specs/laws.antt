@@ -1,4 +1,4 @@
--- Laws of the definitions, with their proofs: a type or a trait cites them, so they cannot stand among the proofs.
+-- Laws of the definitions, with their proofs. They are here, not among the proofs, because types and traits cite them.
 pub mod Halt
 pub mod OfDisks
 pub mod Play

@@ -1,4 +1,4 @@
-//! Requests that a replay accepted.
+//! Requests that a replay has accepted.
 
 ghost use Rattle.dm_replay.specs.Prelude.{asked_of, kept_request};
 ghost use Rattle.std.specs.Prelude.{◌≡◌};
@@ -6,7 +6,7 @@ ghost use Rattle.std.specs.Prelude.{◌≡◌};
 use dm_stack::DeviceId;
 use dm_table::{Op, Request};
 
-/// A request of a device that was played to its end, or halted after a number of units.
+/// A request to a device that was played to its end, or halted after a number of units.
 #[derive(Clone, Copy, Drop)]
 pub(crate) struct AskedRequest {
     pub number: u64,
@@ -18,7 +18,7 @@ pub(crate) struct AskedRequest {
 }
 
 impl AskedRequest {
-    /// A request of this device.
+    /// The request, with its device's id, and after how many units it was halted, if it was.
     pub(crate) fn new(
         request: &Request<'_>,
         device: DeviceId,

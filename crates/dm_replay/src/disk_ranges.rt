@@ -1,7 +1,7 @@
 //! What was stored in the sectors of a disk.
 //!
-//! Ranges that have no sector in common are in a map by their first sector. Of those that begin before a
-//! sector only the last can reach it, so a look-up finds it. Ranges that go on from each other are joined.
+//! Ranges that don't overlap are in a map by their first sector. Of the ranges that begin before a sector, only the
+//! last can contain it, so one look-up finds it. A range that continues another is joined to it.
 
 ghost use Rattle.dm_replay.specs.Prelude.{ℕ, None, [], OnOk, IfSome, AreFirst, AreApart, Has, IsBare, IsCleared, IsCut, IsFirstFrom, IsLastBefore, IsRoomMade, KeepsCuts, KeepsStored, NoneFrom, Shows, Stored, held, spanned, stored_in};
 ghost use Rattle.std.specs.Prelude.{◌≡◌, ◌+◌, ◌<◌, ◌≤◌, ◌^◌};
@@ -32,7 +32,7 @@ impl Model for DiskRanges {
 }
 
 impl DiskRanges {
-    /// Nothing is stored. No memory is taken.
+    /// No stored ranges. Allocates nothing.
     pub(crate) fn new(alloc: Global) -> DiskRanges
         ensures { result ≡ [] }
     {
@@ -41,10 +41,10 @@ impl DiskRanges {
         }
     }
 
-    /// The first sectors of a range whose values go on from that of the first, on the disk of this id: up
-    /// to the end of what was stored there, or to what was stored next.
+    /// The longest front of `len` sectors of this disk whose values count up from the first one's: it ends where a
+    /// stored range ends, or where the next one begins.
     ///
-    /// Cost: about `log n` steps at `n` ranges. No memory is taken.
+    /// Cost: about `log n` steps for `n` ranges. Allocates nothing.
     pub(crate) fn first_values(&self, disk: DiskId, start: u64, len: u64) -> RangeValues
         requires some { 1 ≤ len }
         requires small { start + len < 2 ^ 64 }
@@ -64,11 +64,11 @@ impl DiskRanges {
 
     /// Stores the values of a range in the sectors from `start` on.
     ///
-    /// Cost: about `log n` steps at `n` ranges, for each of them that it touches.
+    /// Cost: about `log n` steps for `n` ranges, for each of them that it touches.
     ///
     /// # Errors
     ///
-    /// `AllocError` where it is out of memory: a part of what was stored there may be lost.
+    /// `AllocError` when out of memory: part of what was stored there may be lost.
     pub(crate) fn store(&mut self, start: u64, range: RangeValues) -> Result<(), AllocError>
         requires { start + range.len < 2 ^ 64 }
         ensures { OnOk result
@@ -106,8 +106,8 @@ fn store_in(
     Ok(())
 }
 
-/// Takes out what is stored from a sector on, before an end. Where nothing is, that is found by one search, which also
-/// tells whether values that come there go on from the range before them; else `true` is returned, as they may.
+/// Removes what is stored from `start` on and before `end`. Returns whether the range to be stored there may continue
+/// the range before it. If nothing was stored there, the one search that finds this also settles whether it does.
 fn make_room(
     ranges: &mut BTreeMap<u64, RangeValues>,
     start: u64,
@@ -135,7 +135,7 @@ fn make_room(
     Ok(true)
 }
 
-/// The last range that begins before a sector, and where.
+/// The last range that begins before a sector, and where it begins.
 fn last_before(ranges: &BTreeMap<u64, RangeValues>, sector: u64) -> Option<(u64, RangeValues)>
     ensures some { IfSome result (λ found. IsLastBefore ranges.now sector found.0 found.1) }
     ensures none { result ≡ None → NoneFrom ranges.now 0 sector }
@@ -146,7 +146,7 @@ fn last_before(ranges: &BTreeMap<u64, RangeValues>, sector: u64) -> Option<(u64,
     }
 }
 
-/// Where the first range begins that begins from a sector on, before an end.
+/// The first sector from `start` on and before `end` where a range begins.
 fn first_from(ranges: &BTreeMap<u64, RangeValues>, start: u64, end: u64) -> Option<u64>
     requires { start ≤ end }
     ensures some { IfSome result (IsFirstFrom ranges.now start end) }
@@ -158,7 +158,7 @@ fn first_from(ranges: &BTreeMap<u64, RangeValues>, start: u64, end: u64) -> Opti
     }
 }
 
-/// The range that has a sector, and where it begins.
+/// The range that contains a sector, and where it begins.
 fn range_with(ranges: &BTreeMap<u64, RangeValues>, sector: u64) -> Option<(u64, RangeValues)>
     requires small { sector + 1 < 2 ^ 64 }
     requires apart { AreApart ranges.now }
@@ -173,7 +173,7 @@ fn range_with(ranges: &BTreeMap<u64, RangeValues>, sector: u64) -> Option<(u64, 
     }
 }
 
-/// How many of `len` sectors come before the next range, where none has the first.
+/// How many of `len` sectors come before the next range; the first is in none.
 fn bare_len(ranges: &BTreeMap<u64, RangeValues>, start: u64, len: u64) -> u64
     requires some { 1 ≤ len }
     requires small { start + len < 2 ^ 64 }
@@ -189,7 +189,7 @@ fn bare_len(ranges: &BTreeMap<u64, RangeValues>, start: u64, len: u64) -> u64
     }
 }
 
-/// Cuts the last range that begins before a sector there, if it goes on over it.
+/// Cuts the last range that begins before a sector in two there, if it extends across the sector's start.
 fn cut(
     ranges: &mut BTreeMap<u64, RangeValues>,
     last: Option<(u64, RangeValues)>,
@@ -215,7 +215,7 @@ fn cut(
     Ok(())
 }
 
-/// Takes out the ranges that begin from a sector on, before an end.
+/// Removes the ranges that begin from `start` on and before `end`.
 fn clear(ranges: &mut BTreeMap<u64, RangeValues>, start: u64, end: u64)
     requires order { start ≤ end }
     requires apart { AreApart ranges.old }
@@ -228,7 +228,7 @@ fn clear(ranges: &mut BTreeMap<u64, RangeValues>, start: u64, end: u64)
     }
 }
 
-/// Does what `join_at` does if the range that begins at a sector may go on from the last one before.
+/// Calls `join_at`, if the range that begins at a sector may continue the one before it.
 fn join_front(
     ranges: &mut BTreeMap<u64, RangeValues>,
     sector: u64,
@@ -245,7 +245,7 @@ fn join_front(
     }
 }
 
-/// Joins the range that begins at a sector to the one that ends there, if it goes on from that.
+/// Joins the range that begins at a sector to the one that ends there, if it continues that.
 fn join_at(ranges: &mut BTreeMap<u64, RangeValues>, sector: u64) -> Result<(), AllocError>
     requires { AreApart ranges.old }
     ensures apart { AreApart ranges.new }

@@ -1,7 +1,7 @@
 //! The values of all sectors of disks.
 //!
-//! Each disk has its ranges, up to the last one in which something was stored. So memory grows with
-//! what was stored, however long the disks are.
+//! Each disk has a list of ranges, up to the last disk on which something was stored. So memory grows with what was
+//! stored, however long the disks are.
 
 ghost use Rattle.dm_replay.specs.Prelude.{ℕ, [], length, OnOk, AreFirst, ranged, values_of};
 ghost use Rattle.std.specs.Prelude.{◌≡◌, ◌+◌, ◌<◌, ◌≤◌, ◌^◌};
@@ -12,7 +12,7 @@ use crate::value::Value;
 use dm_stack::DiskId;
 use std::alloc::{AllocError, Global};
 
-/// What the sectors of disks hold: at the start, what they held before.
+/// What the sectors of disks hold: what was stored in them, or what they held at the start.
 #[derive(Drop)]
 pub(crate) struct DiskValues {
     alloc: Global,
@@ -20,7 +20,7 @@ pub(crate) struct DiskValues {
 }
 
 impl DiskValues {
-    /// The values at the start. No memory is taken.
+    /// The values at the start. Allocates nothing.
     pub(crate) fn new(alloc: Global) -> DiskValues
         ensures { result.disks.items ≡ [] }
     {
@@ -30,9 +30,9 @@ impl DiskValues {
         }
     }
 
-    /// The first sectors of a range whose values go on from that of the first: at least one.
+    /// The longest front of `len` sectors whose values count up from the first one's; at least one sector.
     ///
-    /// Cost: logarithmic in the ranges of the disk. No memory is taken.
+    /// Cost: logarithmic in the ranges of the disk. Allocates nothing.
     pub(crate) fn first_values(&self, disk: DiskId, start: u64, len: u64) -> RangeValues
         requires some { 1 ≤ len }
         requires small { start + len < 2 ^ 64 }
@@ -55,7 +55,7 @@ impl DiskValues {
     ///
     /// # Errors
     ///
-    /// `AllocError` where it is out of memory.
+    /// `AllocError` when out of memory.
     pub(crate) fn store(
         &mut self,
         disk: DiskId,
@@ -74,7 +74,7 @@ impl DiskValues {
     }
 }
 
-/// Adds disks of which nothing is stored, until there is one of this index.
+/// Adds disks on which nothing is stored, until there is one with this index.
 fn reach(alloc: Global, disks: &mut Vec<DiskRanges>, index: usize) -> Result<(), AllocError>
     ensures there { OnOk result (index < length disks.new.items) }
     ensures same { (disk sector : ℕ) → values_of disks.new.items disk sector

@@ -1,4 +1,4 @@
-//! The list of requests that a replay accepted, which only proofs read.
+//! The list of requests that a replay has accepted; only proofs read it.
 
 ghost use Rattle.dm_replay.specs.Prelude.{[], kept_request};
 ghost use Rattle.std.specs.Prelude.{◌≡◌, ◌++◌, ◌∷◌};
@@ -8,7 +8,7 @@ use dm_stack::DeviceId;
 use dm_table::{GhostList, Request};
 use std::marker::Model;
 
-/// A growing list of requests, of size zero.
+/// A growing list of requests, of size zero at run time.
 #[derive(Drop)]
 pub(crate) struct GhostAsked {
     requests: GhostList<AskedRequest>,
@@ -35,7 +35,7 @@ impl GhostAsked {
         }
     }
 
-    /// Adds a request of a device after those so far.
+    /// Adds a request to a device behind those so far.
     pub(crate) fn add(&mut self, request: &Request<'_>, device: DeviceId, halted_after: Option<u64>)
         ensures { self.new ≡ self.old ++ kept_request request.now device halted_after ∷ [] }
     {

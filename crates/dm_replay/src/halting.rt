@@ -1,7 +1,7 @@
-//! The halting player: a sink that plays units up to a number of them, and fails at the next one.
+//! The halting player: a sink that plays up to a number of units, and fails at the next one.
 //!
-//! It owns the player while a request is mapped. After a sink failed, nothing but the sink tells what
-//! was played, so what it says then has to speak of the values of its own player.
+//! It owns its player while a request is mapped. After a sink has failed, only the sink can say what was played, so
+//! its relations must be about the values of its own player.
 
 ghost use Rattle.dm_replay.specs.Prelude.{true, false, OnErr, OnOk, IsOnDisks, piece_len, units_of, HasHalted, HasTaken};
 ghost use Rattle.std.specs.Prelude.{◌≡◌, ◌<◌, ◌≤◌};
@@ -13,14 +13,14 @@ use dm_map::{Piece, Sink};
 #[derive(Drop)]
 pub(crate) struct Halting<'s> {
     pub player: Player<'s>,
-    /// How many units may still be played.
+    /// How many more units may be played.
     pub left: u64,
-    /// Whether it failed because there were more than that, and those that were left were played.
+    /// Whether it failed because more units came than were left; those that were left have been played then.
     pub halted: bool,
 }
 
 impl<'s> Halting<'s> {
-    /// Plays at most so many units by this player.
+    /// A halting player that plays at most `units` units with this player.
     pub(crate) fn new(player: Player<'s>, units: u64) -> Halting<'s>
         ensures player { result.player ≡ player.entry }
         ensures left { result.left ≡ units }
@@ -33,14 +33,14 @@ impl<'s> Halting<'s> {
         }
     }
 
-    /// The player, after what it played. No memory is taken.
+    /// Returns the player, after what it played. Allocates nothing.
     pub(crate) fn into_player(self) -> Player<'s>
         ensures { result ≡ self.entry.player }
     {
         self.player
     }
 
-    /// Plays a piece. It fails where more units come than are left, or where it is out of memory.
+    /// Plays a piece. Fails if it has more units than are left, or when out of memory.
     fn play(&mut self, piece: Piece) -> Result<(), ()>
         requires some { 1 ≤ piece_len piece }
         requires lies { IsOnDisks self.old.player.stack.now piece }
@@ -60,8 +60,7 @@ impl<'s> Halting<'s> {
         Ok(())
     }
 
-    /// Plays the units that are left of a piece that has more: it is halted then, unless it is out of
-    /// memory.
+    /// Plays the units that are left, of a piece that has more. The player is halted then, unless memory ran out.
     fn halt(&mut self, piece: Piece)
         requires lies { IsOnDisks self.old.player.stack.now piece }
         requires more { self.old.left < piece_len piece }
@@ -99,7 +98,7 @@ impl Sink for Halting<'_> {
       left = λ old units new. old.halted ≡ false → new.halted ≡ true → HasHalted old units new;
     } };
 
-    /// Plays the piece. It fails where more units came than were left, or where it is out of memory.
+    /// Plays a piece. Fails if more units come than are left, or when out of memory.
     fn piece(&mut self, piece: Piece) -> Result<(), ()> {
         match self.play(piece) {
             Ok(()) => Ok(()),

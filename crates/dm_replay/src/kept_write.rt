@@ -1,4 +1,4 @@
-//! Writes that a replay keeps, to map them once more.
+//! Writes that a replay keeps, to map them again.
 
 ghost use Rattle.dm_replay.specs.Prelude.{OnOk, with_request};
 ghost use Rattle.std.specs.Prelude.{◌≡◌};
@@ -7,8 +7,8 @@ use dm_stack::DeviceId;
 use dm_table::Op;
 use std::alloc::AllocError;
 
-/// The sectors of a write to a device that count for the state that it left: those whose units were all
-/// played, if it lies inside its device.
+/// The sectors of a write that count for the state that it left: from its first one on, those whose units were all
+/// played, if the write lies inside its device.
 #[derive(Clone, Copy, Drop)]
 pub(crate) struct KeptWrite {
     pub device: DeviceId,
@@ -16,11 +16,11 @@ pub(crate) struct KeptWrite {
     pub whole: u64,
 }
 
-/// Keeps what counts of a request, if it is a write: a read changes no state.
+/// Keeps a request's whole sectors if it is a write; a read isn't kept, because it changes no state.
 ///
 /// # Errors
 ///
-/// `AllocError` where it is out of memory.
+/// `AllocError` when out of memory.
 pub(crate) fn keep(writes: &mut Vec<KeptWrite>, op: Op, write: KeptWrite) -> Result<(), AllocError>
     ensures { OnOk result (writes.new.items ≡ with_request op write writes.old.items) }
 {

@@ -1,8 +1,8 @@
 //! Requests played on the values of disks.
 //!
-//! A `Replay` plays the units of requests, one request after the other, on disks whose sectors hold
-//! what was there before, and answers what each sector of a request reads or stores. No table of
-//! sectors is made: what it keeps grows with the ranges that were stored.
+//! A `Replay` plays the units of requests, one request after the other, on disks whose sectors hold what they held
+//! before, and answers what each sector of a request reads or stores. There is no table of all sectors: its memory
+//! grows with the ranges that were stored.
 #![tactic(auto)]
 
 mod asked_request;

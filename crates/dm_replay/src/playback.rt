@@ -1,4 +1,5 @@
-//! The playback of one request: its units, or the first of them, through a mapper, on the values of disks.
+//! The playback of one request: all of its units, or the first of them, from a mapper to a player on the values of
+//! disks.
 
 ghost use Rattle.dm_replay.specs.Prelude.{false, length, min, IfOk, OnOk, device_len, sector_past, halted_units, step_for, AreRunsOf, values_of, played_answers};
 ghost use Rattle.dm_replay.specs.Playback.{CanPlay, HasPlayedOf};
@@ -12,11 +13,11 @@ use dm_stack::DeviceId;
 use dm_table::Request;
 use std::alloc::{AllocError, Global};
 
-/// Plays a request of a device of the stack, and returns what it answered.
+/// Plays a request to a device of the stack, and returns its answers.
 ///
 /// # Errors
 ///
-/// `AllocError` where it is out of memory: a part of the request may have been played.
+/// `AllocError` when out of memory: part of the request may have been played.
 pub(crate) fn play_request<T: Taken>(
     alloc: Global,
     mapper: &mut Mapper<'_, T>,
@@ -44,12 +45,12 @@ pub(crate) fn play_request<T: Taken>(
     }
 }
 
-/// Plays the first `units` units of a request of a device of the stack, or all that it has. The mapper
-/// is spent: it has failed where there are more.
+/// Plays the first `units` units of a request to a device of the stack, or all if it has fewer. The mapper is used
+/// up, because it has failed if there are more.
 ///
 /// # Errors
 ///
-/// `AllocError` where it is out of memory.
+/// `AllocError` when out of memory.
 pub(crate) fn play_front<'s, T: Taken>(
     alloc: Global,
     mut mapper: Mapper<'_, T>,

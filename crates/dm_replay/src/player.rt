@@ -1,7 +1,7 @@
 //! The player: a sink that plays the pieces of a request on the values of disks.
 //!
-//! Its relation speaks of values sector by sector, so nothing above knows that they are kept as
-//! ranges. Nothing is said of a player that failed.
+//! Its relation is about the value of each sector, so nothing above needs to know that values are kept as ranges.
+//! Nothing is said of a player that failed.
 
 ghost use Rattle.dm_replay.specs.Prelude.{[], OnOk, IsOnDisk, IsOnDisks, piece_len, units_of, HasPlayed, AreMaximal};
 ghost use Rattle.std.specs.Prelude.{◌≡◌, ◌+◌, ◌<◌, ◌≤◌, ◌^◌};
@@ -25,7 +25,7 @@ pub(crate) struct Player<'s> {
 }
 
 impl<'s> Player<'s> {
-    /// A player on the disks of a stack, as they are at the start. No memory is taken.
+    /// A player on the disks of a stack as they are at the start. Allocates nothing.
     pub(crate) fn new(alloc: Global, stack: &'s Stack) -> Player<'s>
         ensures stack { result.stack.now ≡ stack.now }
         ensures ranges { result.playing.values.disks.items ≡ [] }
@@ -42,8 +42,7 @@ impl<'s> Player<'s> {
         }
     }
 
-    /// Sets the number of the request that comes next, and the sector of its device that is answered
-    /// first. Nothing is answered yet.
+    /// Sets the number of the next request, and the first sector of its device to be answered. Removes earlier answers.
     pub(crate) fn begin(&mut self, alloc: Global, number: u64, first: u64)
         ensures playing { self.new.playing
             ≡ record { values = self.old.playing.values; number = number; next = first; runs = [] } }
@@ -54,7 +53,7 @@ impl<'s> Player<'s> {
         self.playing.runs = ValueRuns::new(alloc);
     }
 
-    /// What was answered since a request began; it is not kept.
+    /// Returns what was answered since the request began, and removes it from the player.
     pub(crate) fn take_runs(&mut self, alloc: Global) -> Vec<ValueRun>
         ensures runs { result.items ≡ self.old.playing.runs }
         ensures maximal { AreMaximal result.items }
@@ -64,7 +63,7 @@ impl<'s> Player<'s> {
         replace(&mut self.playing.runs, ValueRuns::new(alloc)).into_vec()
     }
 
-    /// Plays a piece.
+    /// Plays a piece: changes the values of disks, and adds to the answers.
     pub(crate) fn play(&mut self, piece: Piece) -> Result<(), AllocError>
         requires some { 1 ≤ piece_len piece }
         requires lies { IsOnDisks self.old.stack.now piece }
@@ -112,7 +111,7 @@ impl<'s> Player<'s> {
     }
 }
 
-/// Recalls that no disk is longer than 2^50 sectors. It does nothing: its contract is what is asked of it.
+/// Recalls that no disk is longer than 2^50 sectors. It does nothing at run time; callers need its contract.
 fn recall_length(stack: &Stack, disk: DiskId, start: u64, len: u64)
     requires { IsOnDisk stack.now disk start len }
     ensures { start + len ≤ 2 ^ 50 }
@@ -141,7 +140,7 @@ impl Sink for Player<'_> {
       left = λ old units new. Unit {0};
     } };
 
-    /// Plays the piece, or fails where it is out of memory.
+    /// Plays a piece. Fails when out of memory.
     fn piece(&mut self, piece: Piece) -> Result<(), AllocError> {
         match self.play(piece) {
             Ok(()) => Ok(()),

@@ -1,7 +1,7 @@
 //! Replays: requests played one after the other on the disks of a stack.
 //!
-//! `specs/Histories.antt` says what the disks hold after the requests that were accepted, and what a
-//! request answers then; `specs/Rows.antt` says what each device would hold if it were alone.
+//! `specs/Histories.antt` defines what the disks hold after the accepted requests, and what a request answers then;
+//! `specs/Rows.antt` defines what each device would hold if it were alone.
 
 ghost use Rattle.dm_replay.specs.Prelude.{[], IfErr, IfOk, IfSome, None, OnOk, Option, Some, false, length, nat_lt, position, AreTops, IsTidy, IsTop, device_len, is_same, world_after, AreOfTops, HasTop, IsAnswered, IsNotAnswered, IsNotBegun, IsNotHalted, IsUnanswered, IsIntact, IsFitting, start_state, asked_request, halted_request, new_replay, replay_from, whole_request};
 ghost use Rattle.std.specs.Prelude.{◌≡◌, ◌∷◌, ◌+◌, ◌++◌, ◌-◌, ◌<◌, ◌≤◌, if◌then◌else◌};
@@ -24,8 +24,8 @@ use dm_table::{Request, Reserved};
 use std::alloc::Global;
 use std::marker::Model;
 
-/// The disks of a stack, on which requests of its top devices are played one after the other. A clause
-/// sees the stack, the state at the start, the requests that were accepted, and whether the replay failed, since it was out of memory.
+/// The disks of a stack, on which requests to its top devices are played one after the other. In contracts, its value
+/// is the stack, the state at the start, the accepted requests, and whether the replay failed because memory ran out.
 #[derive(Drop)]
 pub struct Replay<'s, T: Taken> {
     stack: &'s Stack,
@@ -52,21 +52,21 @@ impl<'s, T: Taken> Model for Replay<'s, T> {
 }
 
 impl<'s, T: Taken> Replay<'s, T> {
-    /// A replay of a stack of which no two claims meet. Each sector of its disks holds what was there
-    /// before.
+    /// A replay of a stack, none of whose claims may clash. Each sector of its disks holds what it held before, and
+    /// snapshots are fresh.
     ///
-    /// Cost: that of `Stack::tidy` and of `Stack::tops`, which is noted, so that no request looks at all lines.
+    /// Cost: that of `Stack::tidy` and of `Stack::tops`, whose result is kept, so that no request looks at all lines.
     ///
     /// # Errors
     ///
-    /// `Untidy` where two claims meet. `Memory` where it is out of memory.
+    /// `Untidy` if two claims clash, `Memory` when out of memory.
     pub fn new(alloc: Global, stack: &'s Stack) -> Result<Replay<'s, T>, ReplayFault>
         ensures new { IfOk result (λ replay. replay ≡ new_replay stack.now) }
         ensures intact { IfOk result (λ replay. IsIntact stack.now replay.start) }
         ensures tidy { OnOk result (IsTidy stack.now) }
         ensures fault { IfErr result (λ fault. IsNotBegun fault stack.now) }
     {
-        // Called because its contract says that no snapshot is lost at the start.
+        // Called for its contract, which says that no snapshot is lost at the start.
         nothing_is_lost::<Value>(stack);
         match Mapper::new(alloc, stack.looker()) {
             Ok(mapper) => Replay::go_on(alloc, stack, mapper),
@@ -74,8 +74,8 @@ impl<'s, T: Taken> Replay<'s, T> {
         }
     }
 
-    /// A replay that goes on from the state of a mapper of the stack, of which no two claims meet, and which can be in
-    /// that state. Each sector of its disks holds what is there now, and each top device what its reads give then.
+    /// A replay of a stack, none of whose claims may clash, that starts in the state of a mapper. Each sector of its
+    /// disks holds what it holds now, and each top device what its reads give in that state.
     ///
     /// Cost and errors are those of `new`.
     pub fn go_on(
@@ -118,19 +118,18 @@ impl<'s, T: Taken> Replay<'s, T> {
         &self.mapper
     }
 
-    /// Plays a request of a top device, and returns what each of its sectors answered, in maximal
-    /// runs: what a read gave, what a write stored, or that it failed.
+    /// Plays a request to a top device, and returns what each of its sectors answered, in maximal runs: what a read
+    /// gave, what a write stored, or that it failed.
     ///
-    /// Cost: that of mapping the request, and about `log n` steps at `n` ranges that hold what was
-    /// stored, for each of them that is read, copied or stored over. Ranges that go on from each other
-    /// are one. Memory grows with these ranges, of 40 bytes each besides the room that a map leaves, and
-    /// with the writes, of 24 bytes each, or twice that while their list grows. Reads aren't kept.
+    /// Cost: that of mapping the request, and about `log n` steps for each stored range that is read, copied or
+    /// overwritten, if there are `n` ranges; ranges that continue each other are one. Memory grows with the ranges,
+    /// by 40 bytes each and unused room in the map, and with the writes, by 24 bytes each, or twice that while their
+    /// list grows. Reads aren't kept.
     ///
     /// # Errors
     ///
-    /// `NotTop` where no top device has the name, and `Stopped` where it was out of memory at an
-    /// earlier request: nothing changes. `Memory` where it is out of memory: the replay has failed
-    /// from then on.
+    /// `NotTop` if no top device has the name, and `Stopped` if memory ran out at an earlier request; nothing
+    /// changes. `Memory` when out of memory: the replay has failed from then on.
     pub fn request(
         &mut self,
         alloc: Global,
@@ -150,12 +149,12 @@ impl<'s, T: Taken> Replay<'s, T> {
         }
     }
 
-    /// Plays a request of the device of an id, which belongs to the stack; the name in the request isn't read.
-    /// For whoever knows the device, this is `request` without the look-up of its name.
+    /// Plays a request to the device with this id, which belongs to the stack; the name in the request isn't read.
+    /// This is `request` without the look-up of the name, for callers who know the device.
     ///
     /// # Errors
     ///
-    /// Those of `request`, in the same order: `NotTop` where the device is no top device.
+    /// Those of `request`, in the same order: `NotTop` if the device is no top device.
     pub fn request_of(
         &mut self,
         alloc: Global,
@@ -177,11 +176,11 @@ impl<'s, T: Taken> Replay<'s, T> {
         if !self.tops[device.index()] {
             return Err(ReplayFault::NotTop);
         }
-        // Called because their contracts are the laws that top devices are like disks of their own, and
-        // when that is without errors.
+        // Called for their contracts, which say that top devices behave like disks of their own, and when
+        // they do so without errors.
         requests_are_alone::<Value>(self.stack);
         nothing_is_lost::<Value>(self.stack);
-        // So it has failed wherever memory runs out on the way.
+        // The replay counts as failed until the end, so that it has failed wherever memory runs out.
         self.failed = true;
         let Ok(runs) = play_request(alloc, &mut self.mapper, &mut self.player, request, device)
         else {
@@ -200,20 +199,19 @@ impl<'s, T: Taken> Replay<'s, T> {
         Ok(runs)
     }
 
-    /// Plays the first `units` units of a request of a top device, or all that it has, and returns the
-    /// replay that goes on from there, in the state after the sectors whose units were all played.
+    /// Plays the first `units` units of a request to a top device, or all if it has fewer, and returns a replay that
+    /// goes on from there, in the state after the sectors whose units were all played.
     ///
-    /// The replay began where no chunk was taken: its writes are mapped once more, from there.
+    /// The replay must have started with fresh snapshots: its writes are mapped again from there. So a chunk is not
+    /// taken if not all of it was copied, or if its sector wasn't written after that. Each unit is played whole, and
+    /// units are played in order. Requests and further halts may follow.
     ///
-    /// So a chunk of which not all was copied, or whose sector wasn't written after that, is not taken.
-    /// Each unit is played whole, and they are played in order. Requests and further halts may follow.
-    ///
-    /// Cost: that of the request, and of mapping all writes so far once more.
+    /// Cost: that of the request, and of mapping all writes so far again.
     ///
     /// # Errors
     ///
-    /// `Stopped` where it was out of memory at an earlier request, `NotTop` where no top device has the
-    /// name, and `Memory` where it is out of memory. The replay is spent in any case.
+    /// `Stopped` if memory ran out at an earlier request, `NotTop` if no top device has the name, and `Memory` when
+    /// out of memory. The replay can't be used after an error.
     pub fn halt(
         self,
         alloc: Global,
@@ -276,8 +274,8 @@ impl<'s, T: Taken> Replay<'s, T> {
     }
 }
 
-/// How many sectors of a request are whole, where the one that is answered next is given: none of one
-/// that passes the device's end.
+/// How many sectors of a request are whole, if `next` is the next one to answer; none if the request passes the
+/// device's end.
 fn whole_sectors(stack: &Stack, device: DeviceId, request: &Request<'_>, next: u64) -> u64
     requires device { device < length stack.now.devices }
     requires next { request.now.start + request.now.len ≤ device_len stack.now device
@@ -293,7 +291,7 @@ fn whole_sectors(stack: &Stack, device: DeviceId, request: &Request<'_>, next: u
     }
 }
 
-/// Refuses a stack of which two claims meet.
+/// Refuses a stack with two claims that clash.
 fn refuse_clash(alloc: Global, stack: &Stack) -> Result<(), ReplayFault>
     ensures tidy { OnOk result (IsTidy stack.now) }
     ensures fault { IfErr result (λ fault. IsNotBegun fault stack.now) }
@@ -305,7 +303,7 @@ fn refuse_clash(alloc: Global, stack: &Stack) -> Result<(), ReplayFault>
     }
 }
 
-/// The top device of a name, where it is noted which devices are top.
+/// The top device with this name; `tops` says which devices are top devices.
 fn top_device(stack: &Stack, tops: &[bool], name: &str) -> Option<DeviceId>
     requires { AreTops stack.now tops.now }
     ensures some { IfSome result

@@ -1,20 +1,20 @@
-//! Why a replay did not begin, or did not answer a request.
+//! Why a replay didn't start, or didn't answer a request.
 
 use thiserror::Error;
 
 /// Why there is no replay, or no answer.
 #[derive(Clone, Copy, Debug, PartialEq, Eq, Drop, Error)]
 pub enum ReplayFault {
-    /// Two claims of the stack meet.
+    /// Two claims of the stack clash.
     #[error("untidy")]
     Untidy,
-    /// Out of memory.
+    /// Memory ran out.
     #[error("memory")]
     Memory,
     /// No top device has the name.
     #[error("not top")]
     NotTop,
-    /// Out of memory at an earlier request.
+    /// Memory ran out at an earlier request.
     #[error("stopped")]
     Stopped,
 }

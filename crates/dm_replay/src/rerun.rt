@@ -1,7 +1,7 @@
 //! Reruns: a mapper in the state that kept writes left.
 //!
-//! A mapper whose sink failed maps nothing more. So a new one maps what was whole of each write, to
-//! a sink that takes everything and does nothing.
+//! A mapper whose sink failed can't map any more. So a new mapper maps the whole sectors of each write again, to a
+//! sink that accepts everything and does nothing.
 
 ghost use Rattle.dm_replay.specs.Prelude.{false, IfOk, AllByRecursion, start_state, IsKept, rerun_from, rerun_step};
 ghost use Rattle.std.specs.Prelude.{◌≡◌};
@@ -12,13 +12,13 @@ use dm_stack::Stack;
 use dm_table::{Op, Request};
 use std::alloc::{AllocError, Global};
 
-/// A mapper of a stack in the state that writes to its devices left.
+/// A mapper of a stack, in the state that writes to its devices left.
 ///
-/// Cost: that of mapping them once more.
+/// Cost: that of mapping the writes again.
 ///
 /// # Errors
 ///
-/// `AllocError` where it is out of memory for its state.
+/// `AllocError` when out of memory for the mapper's state.
 pub(crate) fn rerun<'s, T: Taken>(
     alloc: Global,
     stack: &'s Stack,
@@ -38,7 +38,7 @@ pub(crate) fn rerun<'s, T: Taken>(
     Ok(mapper)
 }
 
-/// Maps once more what was whole of a write.
+/// Maps the whole sectors of a kept write again.
 fn map_again<T: Taken>(kept: &KeptWrite, mapper: &mut Mapper<'_, T>, discard: &mut Discard<'_>)
     requires going { mapper.old.failed ≡ false }
     requires stack { discard.old.stack.now ≡ mapper.old.stack }

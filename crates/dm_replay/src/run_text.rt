@@ -8,7 +8,7 @@ use dm_stack::Stack;
 use dm_table::{OutFault, Output, Text, put_bytes, put_digits};
 use std::marker::Model;
 
-/// The line of a run of a stack, under the number of its request.
+/// The line of a run of answers over a stack, with its request's number.
 #[derive(Drop)]
 struct RunLine<'a> {
     stack: &'a Stack,
@@ -39,7 +39,7 @@ impl<'a> Text for RunLine<'a> {
     }
 }
 
-/// Puts a run at an offset in a block, and returns where it ends.
+/// Puts a run at offset `at` of a block, and returns where it ends.
 fn put_run(block: &mut [u8], at: usize, stack: &Stack, run: &ValueRun) -> usize
     requires room { at + 400 ≤ length block.old }
     requires disks { IsRunOf (length stack.now.disks) run.now }
@@ -72,7 +72,7 @@ fn put_run(block: &mut [u8], at: usize, stack: &Stack, run: &ValueRun) -> usize
     }
 }
 
-/// Puts a start and a length at an offset in a block, each after a space.
+/// Puts a start and a length at offset `at` of a block, each after a space.
 fn put_range(block: &mut [u8], at: usize, start: u64, len: u64) -> usize
     requires room { at + 60 ≤ length block.old }
     ensures put { IsPut (code " " ∷ decimal start ++ code " " ∷ decimal len) at block.old block.new result }
@@ -84,11 +84,11 @@ fn put_range(block: &mut [u8], at: usize, start: u64, len: u64) -> usize
     put_digits(block, at, len)
 }
 
-/// Writes what a request of this number answered: a line `N old DISK START LEN`, `N wrote K START
-/// LEN`, `N zero LEN` or `N error LEN` for each run.
+/// Writes what the request of this number answered: a line `N old DISK START LEN`, `N wrote K START LEN`, `N zero
+/// LEN` or `N error LEN` for each run.
 ///
-/// The runs name disks of the stack alone. After a fault a beginning of the text is written, and
-/// nothing is tried again. Takes no memory, and makes a write for each line.
+/// The runs name only disks of the stack. After a fault, only a prefix of the text is written, and nothing is tried
+/// again. Allocates nothing, and makes one write for each line.
 pub fn write_runs<W: Output>(
     stack: &Stack,
     number: u64,

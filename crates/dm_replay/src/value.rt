@@ -1,4 +1,4 @@
-//! Values: what a sector of a disk holds.
+//! Values: what a sector of a disk can hold.
 
 ghost use Rattle.dm_replay.specs.Prelude.{first_answer, run_len, Gives, further, value_end};
 ghost use Rattle.std.specs.Prelude.{◌≡◌, ◌+◌, ◌<◌, ◌^◌};
@@ -18,7 +18,7 @@ pub(crate) enum Value {
 }
 
 impl Value {
-    /// The value `len` sectors further on, where the values go on from this one.
+    /// The value `len` sectors further on, if values count up from this one.
     pub(crate) fn further(self, len: u64) -> Value
         requires { value_end self len < 2 ^ 64 }
         ensures { result ≡ further self len }
@@ -36,7 +36,7 @@ impl Value {
         }
     }
 
-    /// The run of `len` values that go on from this one.
+    /// The run of `len` values that count up from this one.
     pub(crate) fn run(self, len: u64) -> ValueRun
         ensures first { first_answer result ≡ Gives self }
         ensures len { run_len result ≡ len }

@@ -5,22 +5,21 @@ ghost use Rattle.std.specs.Prelude.{◌≡◌, ◌+◌, ◌==◌};
 
 use dm_stack::DiskId;
 
-/// What `len` consecutive sectors of a request answered. Starts and lengths are in sectors of 512
-/// bytes.
+/// What `len` consecutive sectors of a request answered. Starts and lengths are in sectors of 512 bytes.
 #[derive(Clone, Copy, Debug, PartialEq, Eq, Drop)]
 pub enum ValueRun {
     /// What the sectors of a disk from `start` on held at the start of the replay.
     Old { disk: DiskId, start: u64, len: u64 },
     /// What a request wrote to the sectors of its device from `start` on.
     Wrote { request: u64, start: u64, len: u64 },
-    /// Zeros, or a write that was thrown away.
+    /// Zeros, or a write that was discarded.
     Zero { len: u64 },
-    /// Nothing: they failed.
+    /// No value: the sectors failed.
     Error { len: u64 },
 }
 
 impl ValueRun {
-    /// How many sectors.
+    /// How many sectors the run has.
     pub(crate) fn len(&self) -> u64
         ensures { result ≡ run_len self.now }
     {
@@ -32,7 +31,7 @@ impl ValueRun {
         }
     }
 
-    /// This run with another length.
+    /// The run with another length.
     pub(crate) fn with_len(self, len: u64) -> ValueRun
         ensures first { first_answer result ≡ first_answer self }
         ensures len { run_len result ≡ len }
@@ -49,7 +48,7 @@ impl ValueRun {
         }
     }
 
-    /// Whether another run goes on where this one ends.
+    /// Whether another run continues this one.
     pub(crate) fn joins(&self, after: &ValueRun) -> bool
         ensures joins { OnTrue result (Joins self.now after.now) }
         ensures apart { OnFalse result (Joins self.now after.now → ⊥) }

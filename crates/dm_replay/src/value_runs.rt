@@ -1,4 +1,4 @@
-//! Runs in a row, as long as can be.
+//! Consecutive runs, each as long as it can be.
 
 ghost use Rattle.dm_replay.specs.Prelude.{[], OnOk, AreMaximal, flat, run_answers, run_len};
 ghost use Rattle.std.specs.Prelude.{◌≡◌, ◌<◌, ◌++◌};
@@ -7,7 +7,7 @@ use crate::value_run::ValueRun;
 use std::alloc::{AllocError, Global};
 use std::marker::Model;
 
-/// Runs, none of which is empty or joins the one before it.
+/// Runs, none of which is empty or continues the one before it.
 #[derive(Drop)]
 pub(crate) struct ValueRuns {
     runs: Vec<ValueRun>,
@@ -25,7 +25,7 @@ impl Model for ValueRuns {
 }
 
 impl ValueRuns {
-    /// No runs. No memory is taken.
+    /// No runs. Allocates nothing.
     pub(crate) fn new(alloc: Global) -> ValueRuns
         ensures { result ≡ [] }
     {
@@ -34,11 +34,11 @@ impl ValueRuns {
         }
     }
 
-    /// Adds a run at the end, to the last one if it joins that.
+    /// Adds a run at the end: joins it to the last run if it continues that.
     ///
     /// # Errors
     ///
-    /// `AllocError` where it is out of memory, or the last run would have 2^64 sectors or more.
+    /// `AllocError` when out of memory, or if the last run would have 2^64 sectors or more.
     pub(crate) fn add(&mut self, run: ValueRun) -> Result<(), AllocError>
         requires { 0 < run_len run }
         ensures { OnOk result (flat self.new ≡ flat self.old ++ run_answers run) }
@@ -59,7 +59,7 @@ impl ValueRuns {
         Ok(())
     }
 
-    /// The runs. No memory is taken.
+    /// Returns the runs. Allocates nothing.
     pub(crate) fn into_vec(self) -> Vec<ValueRun>
         ensures runs { result.items ≡ self }
         ensures maximal { AreMaximal result.items }

@@ -1,3 +1,3 @@
--- what crates above cite: they see no folder of a module that is private
+-- names that crates above cite, because a private module's folder is invisible to them
 pub use Rattle.dm_stream.proofs.pieces.FewestLemmas
 pub mod Prelude

@@ -1,4 +1,4 @@
--- The words and lemmas that proofs cite, from one place.
+-- Names and lemmas that proofs cite, re-exported from one place.
 pub use Rattle.dm_map.proofs.LegUnits.{HasTakenTo, failed_at_leg, took_leg, took_no_leg}
 pub use Rattle.dm_map.specs.Prelude.{BlockUnit, CopyOf, Drops, Fails, FillOf, HasTakenOrIsHome, IsHanded, IsHome, IsOnDisk, IsOnDisks, MapperView, OnSinkFault, ReadOf, SinkPast, State, WriteOf, Zeros, disk_unit, diskless_len, first_unit, next_unit, piece_len, snapshot_at, taken_at, units_in, units_of, usage_of, with_looked}
 pub use Rattle.dm_map.specs.declared.pieces.piece.Piece.{Piece}

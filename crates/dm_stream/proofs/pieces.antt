@@ -1,4 +1,4 @@
--- Of pieces that are joined, and of their texts.
+-- Lemmas about joining pieces, and about their texts.
 pub mod FewestLemmas
 pub mod FitsLemmas
 pub mod JoinLemmas

@@ -1,4 +1,4 @@
--- Of lines and requests that were delivered.
+-- Lemmas about lines and requests that were delivered.
 pub mod Batches
 pub mod Fronts
 pub mod HandledRequests

@@ -1,4 +1,4 @@
--- Of runs: what was played before them, and what they write.
+-- Lemmas about runs: the requests played before them, and what they write.
 pub mod EarlierPlayed
 pub mod RequestMapped
 pub mod Runs

@@ -1,4 +1,4 @@
--- The words of std and of the crates below that this crate cites, and its types, from one place.
+-- Names of std, of lower crates and of this crate's types, re-exported from one place.
 pub use Rattle.dm_map.specs.Prelude.{BlockUnit, CopyOf, Drops, Fails, FillOf, IsLawful, IsOnDisk, IsOnDisks, MapperView, ReadOf, SinkPast, State, Step, WriteOf, Zeros, diskless_len, first_unit, next_unit, piece_len, request_step, snapshot_at, taken_at, units_in, units_of, usage_of}
 pub use Rattle.dm_stack.specs.Prelude.{Description, device_len, disk_name_at, is_same, name_at, snapshots}
 pub use Rattle.dm_stream.specs.declared.runs.earlier.EarlierFault.{EarlierFault}

@@ -1,4 +1,4 @@
--- The words that contracts cite, here and in crates above, from one place.
+-- Names that contracts cite, here and in crates above, re-exported from one place.
 pub use Rattle.dm_map.specs.Prelude.{disk_unit, with_looked}
 pub use Rattle.dm_stack.specs.Prelude.{IsSound, LiesOnDisk}
 pub use Rattle.dm_stream.specs.Base.{BlockUnit, CopyOf, Description, FillOf, HasWritten, HasWrittenTo, IfErr, IfOk, IsClosedAfter, IsOnDisk, IsOnDisks, IsPut, IsReadOn, List, MetNothing, None, Ok, OnOk, OutputPast, Some, [], code, decimal, delivery, device_len, disk_name_at, diskless_len, drop, false, first_unit, length, map, name_at, parts_at, piece_len, refl, since, slice_range, take, units_in, units_of, written_since, written_to_more, written_to_none, ℕ, ◌∙◌}

@@ -1,4 +1,4 @@
--- The fewest pieces of units, and their lines.
+-- The fewest pieces that cover units, and their lines.
 pub mod DiskText
 pub mod Join
 pub mod LineEnds

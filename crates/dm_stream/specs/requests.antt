@@ -1,4 +1,4 @@
--- The lines of what an input delivered, and the requests that they say.
+-- The lines of what an input delivered, and their requests.
 pub mod Batch
 pub mod Lines
 pub mod NextHeld

@@ -1,4 +1,4 @@
--- What a run writes and leaves, how it ends, and what is told of that.
+-- What a run writes and leaves, how it ends, and the message about that.
 pub mod Earlier
 pub mod Mapped
 pub mod Messages

@@ -1,8 +1,7 @@
-//! Requests in, lines out: from bytes of requests to bytes of answers.
+//! Requests in, lines out: from the bytes of requests to the bytes of answers.
 //!
-//! Lines are found in whatever an input hands over, however its reads cut them; each request is
-//! answered with the pieces of a mapper, joined and written. What a request's units are is said in
-//! the mapper's crate; here they become text.
+//! Lines are found in whatever an input hands over, however its reads cut them. Each request is answered with the
+//! pieces of a mapper, which are joined and written. dm_map defines the units of a request; here they become text.
 #![tactic(auto)]
 
 mod pieces;

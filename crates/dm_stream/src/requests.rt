@@ -1,4 +1,4 @@
-//! Requests in: their lines in what an input delivers, and who answers them.
+//! Requests in: finds their lines in what an input delivers, and hands them to whoever answers them.
 
 pub mod batch;
 pub mod exchange;

@@ -1,4 +1,4 @@
-//! Runs: what was played before them, what they map, how they end, and what is told of that.
+//! Runs: the requests played before them, what they map, how they end, and the message about that.
 
 pub mod closing;
 pub mod earlier;

@@ -1,4 +1,4 @@
--- What the exit of a command says of its answer.
+-- What the exit of a command implies for its answer.
 use Rattle.dmremap.proofs.Prelude.{true, false, ℕ, List, [], Option, Some, None, Err, arith, inl, inr, refl, sym, ap, subst, ◌∙◌, append-nil, LoadFault, LoadKind, Delivery, InputPast, OutputPast, delivery, written_since, HasWritten, since-same, written_none, IsCutShort, kind_message, load_message, memory_message, Description, NameFault, Answer, Answers, End, Failed, OutOfMemory, Tells, Told, Writes, end_of, refused_by, Does, HasDone, Exit, Refusal, exit_status, failed_writes, is_flushed, is_refused, load_status, name_status, refusal_message, refusal_status, IsUnasked, RefusedBy, SoundAs, IsOpened, Loaded, Opened, Opening, Stops, AskedBy, EndsAs, Exits, IsClosedAs, IsOut, Moved, StreamsLeft}
 use Rattle.dm_table.specs.declared.load.load_fault.LoadKind.TheVariants as kinds
 use Rattle.dm_stream.specs.declared.runs.ending.Ending.TheVariants as endings
@@ -10,7 +10,7 @@ use Rattle.dmremap.specs.declared.status.TheConstants.{STATUS_MEMORY, STATUS_WRI
 use Rattle.dmremap.proofs.ExitLemmas.{closed_requests, exits_told, kind_memory, of_refusal, read_on_none, refused_output, unasked_requests, write_fault_is}
 use Rattle.std.specs.Prelude.{◌≡◌, ◌≢◌, ◌+◌, ◌++◌}
 
--- a stream of which nothing is asked
+-- a stream of which nothing was asked
 abbrev pub still : {Past : Type 0} → Past → Moved Past
 still x = record { old = x; new = x }
 
@@ -18,7 +18,7 @@ pub unasked_none : {X : Type 0} → (past : X → InputPast) (x : Option X) → 
 unasked_none past (Some x) = refl
 unasked_none past None = tt
 
--- what makes one answer makes another
+-- if every answer of `Gives` is one of `More`, a command that did one of `Gives` did one of `More`
 pub answers_as : {Gives More : Delivery → Answer → Type 0} {requests : Moved InputPast} {output messages : Moved OutputPast} {status : ℕ} → ((asked : Delivery) (answer : Answer) → Gives asked answer → More asked answer)
     → Answers Gives requests output messages status → Answers More requests output messages status
 answers_as more (Told end gives ends output requests) = Told end (more _ _ gives) ends output requests
@@ -28,7 +28,7 @@ answers_as more (OutOfMemory is out) = OutOfMemory is out
 
 -- ---- a command that is refused
 
--- a fault of a load that says that memory ran out has its message
+-- the message of a load fault for lack of memory is the message for running out of memory
 memory_told : (fault : LoadFault) → fault.kind ≡ kinds.Memory → load_message fault ≡ memory_message
 memory_told fault memory = ap (λ (kind : LoadKind). kind_message fault.at.part kind fault.at.number) memory
 
@@ -41,20 +41,20 @@ memory_message_of (refusals.Name fault) six = by_name fault six
     by_name fault six = absurd (omega (arith, six))
 memory_message_of refusal six = absurd (omega (arith, six))
 
--- it ends by its message, unless memory ran out
+-- a refused command ends with the refusal's message, unless memory ran out
 pub end_refused : (refusal : Refusal) → refusal_status refusal ≢ STATUS_MEMORY → end_of (exits.Refused refusal) ≡ refused_by (refusal_message refusal)
 end_refused refusal other = elim (of_refusal refusal) [ inl one ↦ ap (λ (status : ℕ). let end : End = record { message = refusal_message refusal; status = status } in end) one | inr six ↦ absurd (other six) ]
 
--- it tells why, or that memory ran out
+-- a refused command reports its refusal, or that memory ran out
 pub refused_answers : (Gives : Delivery → Answer → Type 0) (refusal : Refusal) {requests : InputPast} {output : OutputPast} {messages : Moved OutputPast} {status : ℕ} → (refusal_status refusal ≢ STATUS_MEMORY → Gives (delivery requests requests) (Tells (end_of (exits.Refused refusal))))
     → Exits (exits.Refused refusal) status messages.old messages.new → Answers Gives (still requests) (still output) messages status
 refused_answers Gives refusal gives exited = elim (of_refusal refusal) [ inl one ↦ Told (end_of (exits.Refused refusal)) (gives (λ six. omega (arith, one, six))) (exited.is, exited.told.told) refl refl | inr six ↦ OutOfMemory (exited.is ∙ six) (refl, refl, rw (memory_message_of refusal six) at exited.told.told) ]
 
--- where memory ran out, nothing was asked for
+-- if a refused command exits because memory ran out, it asked nothing of its streams but the message
 pub refused_out : (refusal : Refusal) {requests : InputPast} {output : OutputPast} {messages : Moved OutputPast} {status : ℕ} → Exits (exits.Refused refusal) status messages.old messages.new → status ≡ STATUS_MEMORY → IsOut (still requests) (still output) messages
 refused_out refusal exited six = (refl, refl, rw (memory_message_of refusal (sym exited.is ∙ six)) at exited.told.told)
 
--- how its streams are left
+-- what a refused command does with its streams
 pub refusal_left : (refusal : Refusal) {requests : InputPast} {output : OutputPast} {messages : Moved OutputPast} {status : ℕ} → Exits (exits.Refused refusal) status messages.old messages.new → StreamsLeft status (still requests) (still output) messages
 refusal_left refusal exited = record {
   read = unasked_requests refusal _ _ _ exited.is (read_on_none _) refl;
@@ -64,12 +64,12 @@ refusal_left refusal exited = record {
 
 -- ---- a command that opens something
 
--- over a stack that was loaded
+-- the answer over a stack that was loaded is an answer of the whole command
 pub loaded_answers : (Opens : Opening → Type 0) (Makes : Delivery → Description → Answer → Type 0) (stack : Description) {requests : Moved InputPast} {output messages : Moved OutputPast} {status : ℕ} → Opens (Loaded (SoundAs stack))
     → Answers (λ asked. Makes asked stack) requests output messages status → Answers (λ asked. Opened Opens (Makes asked)) requests output messages status
 loaded_answers Opens Makes stack opens = answers_as (λ asked answer makes. record { opening = Loaded (SoundAs stack); opens = opens; makes = makes })
 
--- where none is opened
+-- a command whose opening is refused reports the refusal
 pub unopened_tells : (Opens : Opening → Type 0) (Makes : Description → Answer → Type 0) (refusal : Refusal) → IsOpened Opens (Err refusal) → refusal_status refusal ≢ STATUS_MEMORY → Opened Opens Makes (Tells (end_of (exits.Refused refusal)))
 unopened_tells Opens Makes (refusals.Load fault) opened other = record { opening = Loaded (RefusedBy fault); opens = opened (λ memory. other (ap load_status memory)); makes = refl }
 unopened_tells Opens Makes (refusals.Head message) opened other = record { opening = Stops message.items; opens = opened; makes = refl }
@@ -81,17 +81,17 @@ unopened_answers Opens Makes refusal opened exited = refused_answers (λ asked. 
 
 -- ---- a command that does something up to an exit, and then closes its output
 
--- what is done with one answer is done with another that it makes
+-- what a command did for one answer it did for any answer that follows from it
 pub does_more : {Is More : Answer → Type 0} → ((answer : Answer) → Is answer → More answer) → (text : List ℕ) (exit : Exit) → Does Is text exit → Does More text exit
 does_more more text (exits.Refused refusal) did = (did.0, λ other. more (Tells (end_of (exits.Refused refusal))) (did.1 other))
 does_more more text (exits.Ended endings.WriteFault) did = (did.0, did.1, more (Writes did.0 did.1) did.2, did.3)
 does_more more text exit did = more (Writes text (Some (end_of exit))) did
 
--- over a stack that was opened
+-- what a command did for the stack that it opened is what the whole command did
 pub opened_does : (Opens : Opening → Type 0) (Makes : Description → Answer → Type 0) (stack : Description) (text : List ℕ) (exit : Exit) → Opens (Loaded (SoundAs stack)) → Does (Makes stack) text exit → Does (Opened Opens Makes) text exit
 opened_does Opens Makes stack text exit opens = does_more {Is = Makes stack} {More = Opened Opens Makes} (λ answer makes. record { opening = Loaded (SoundAs stack); opens = opens; makes = makes }) text exit
 
--- where it was refused before it wrote anything
+-- a command that is refused before it wrote anything has done what a refusal does
 pub refused_does : (Is : Answer → Type 0) (output : OutputPast) (refusal : Refusal) → (refusal_status refusal ≢ STATUS_MEMORY → Is (Tells (end_of (exits.Refused refusal)))) → Does Is (written_since output output) (exits.Refused refusal)
 refused_does Is output refusal tells = (since-same output.written, tells)
 
@@ -101,13 +101,13 @@ refused_done Is output refusal tells = record { did = refused_does Is output ref
 pub asked_refused : (requests : InputPast) (refusal : Refusal) → AskedBy requests requests (exits.Refused refusal)
 asked_refused requests refusal = record { read_on = read_on_none requests; met = tt; unasked = λ refused. refl }
 
--- where it is flushed, all was written
+-- if the output is flushed at an exit, the whole text was written
 flushed_does : (Is : Answer → Type 0) (text : List ℕ) (exit : Exit) → is_flushed exit ≡ true → Does Is text exit → Is (Writes text (Some (end_of exit)))
 flushed_does Is text (exits.Refused refusal) flag did = absurd cc
 flushed_does Is text (exits.Ended endings.WriteFault) flag did = absurd cc
 flushed_does Is text exit flag did = did
 
--- an output that took nothing is as it was
+-- an output to which no bytes were added is unchanged
 unwritten : (start mid : OutputPast) → HasWritten start mid 0 → written_since start mid ≡ [] → mid ≡ start
 unwritten start mid moved none =
     let written : mid.written ≡ start.written = moved.appends ∙ ap (λ (t : List ℕ). start.written ++ t) none ∙ append-nil start.written in
@@ -161,7 +161,7 @@ closed_left {start = start} before after moved asked closed exited = record {
   told = exits_told exited;
 }
 
--- memory ran out at its end only where it did before
+-- if closing the output left an exit for lack of memory, that was the exit before
 pub memory_before : (before after : Exit) (old new : ℕ) (status : ℕ) → EndsAs before old new after → status ≡ exit_status after → status ≡ STATUS_MEMORY → exit_status before ≡ STATUS_MEMORY
 memory_before before after old new status (inl ends) is six = ap exit_status (sym ends.0) ∙ sym is ∙ six
 memory_before before after old new status (inr ends) is six = let five = ap exit_status (sym ends.0) ∙ sym is ∙ six in absurd (omega (arith, five))

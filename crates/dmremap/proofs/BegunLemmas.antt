@@ -1,25 +1,25 @@
--- How a run begins: what was refused before earlier requests, and what they do.
+-- How a run begins: it is refused before any earlier requests, or plays them.
 use Rattle.dmremap.proofs.Prelude.{arith, Option, Some, None, Result, Ok, Err, sym, subst, IfErr, IsErrAnd, err_from_is_err_and, Delivery, InputPast, Description, State, EarlierFault, Ending, refused_ending, Refusal, IsOutOfMemory, IsBegunAt, ArePlayedIf, ArePlayedOver, Begins, Start, earlier_from}
 use Rattle.dm_stream.specs.declared.runs.earlier.EarlierFault.TheVariants as earlier
 use Rattle.dm_stream.specs.declared.runs.ending.Ending.TheVariants as endings
 use Rattle.dmremap.specs.declared.exit.Refusal.TheVariants as refusals
 use Rattle.std.specs.Prelude.{◌≡◌}
 
--- what the exit of a `?` returns is why it was given
+-- what holds of the error that `?` passes on holds of the result that had this error
 pub handed_on : {T : Type 0} (P : Result T Refusal → Type 0) (result : Result T Refusal) (why : Refusal) → IsErrAnd result (λ found. found ≡ why) → P (Err why) → P result
 handed_on P result why is holds = let p = err_from_is_err_and result is in rw (p.1, p.2) holds
 
--- what holds where memory ran out, and it did
+-- what follows from running out of memory holds if memory ran out
 pub if_out : {T Q : Type 0} (begun : Result T Refusal) → IfErr begun (λ why. IsOutOfMemory why → Q) → IsErrAnd begun IsOutOfMemory → Q
 if_out (Ok prepared) told out = absurd out
 if_out (Err why) told out = told out
 
--- out of memory says nothing of where it begins
+-- running out of memory fits any start of a run
 pub out_begun : (stack : Description) (before : Option Delivery) (start : Start) (why : Refusal) → IsOutOfMemory why → IsBegunAt stack before start (Err why)
 out_begun stack before start (refusals.Earlier fault) memory = absurd (omega (arith, memory))
 out_begun stack before start why memory = λ other. absurd (other memory)
 
--- what was refused with no earlier requests is refused before any
+-- refused earlier requests don't end as done; below, a refusal without earlier requests is one with them, too
 pub never_done : (fault : EarlierFault) → Some endings.Done ≡ Some (refused_ending fault) → ⊥
 never_done (earlier.BadRequest number word) is = cc
 never_done earlier.Read is = cc
@@ -28,7 +28,7 @@ pub begun_before : (stack : Description) (before : Option Delivery) (start : Sta
 begun_before stack before start (refusals.Earlier fault) begun = absurd (never_done fault begun.2)
 begun_before stack before start why begun = begun
 
--- earlier requests were played from where it began
+-- earlier requests end alike in equal states; below, they leave the same state
 pub begun_ending : (stack : Description) (before : Option Delivery) (state reached : State) (ending : Ending) → reached ≡ state → (earlier_from reached stack before).ending ≡ Some ending → (earlier_from state stack before).ending ≡ Some ending
 begun_ending stack before state reached ending same ends = rw same at ends
 

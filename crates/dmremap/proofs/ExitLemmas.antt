@@ -1,4 +1,4 @@
--- What the exit of a command says of its status and of its streams.
+-- What the exit of a command implies for its status and its streams.
 use Rattle.dmremap.proofs.Prelude.{true, false, ℕ, List, Result, Ok, Err, IsErr, OnErr, OnOk, inl, inr, refl, sym, ap, subst, ◌∙◌, arith, LoadKind, InputPast, OutputPast, written_since, HasWritten, IsClosedAfter, IsFinished, IsReadOn, Wrote, finished_as, grows-same, written_none, Ending, HasMet, NameFault, Exit, Refusal, ending_status, exit_message, exit_status, failed_writes, is_flushed, is_refused, load_status, name_status, refusal_status, AskedBy, EndsAs, Exits, IsClosedAs, MessagesTold, OutputWritten, RequestsRead}
 use Rattle.dm_table.specs.declared.load.load_fault.LoadKind.TheVariants as kinds
 use Rattle.dm_stream.specs.declared.runs.ending.Ending.TheVariants as endings
@@ -11,7 +11,7 @@ use Rattle.std.specs.Prelude.{◌≡◌, ◌≢◌, ◌≤◌, ◌⊎◌, ◌+�
 
 -- ---- the status
 
--- a command is refused with one of two statuses
+-- the status of a refusal is STATUS_REFUSED or STATUS_MEMORY
 abbrev pub IsOfTwo : ℕ → Type 0
 IsOfTwo status = (status ≡ STATUS_REFUSED) ⊎ (status ≡ STATUS_MEMORY)
 
@@ -28,7 +28,7 @@ of_refusal (refusals.Load fault) = of_kind fault.kind
 of_refusal (refusals.Name fault) = of_name fault
 of_refusal refusal = inl refl
 
--- and with no other
+-- the status of a refusal is no other than these two
 of_two : (status other : ℕ) → IsOfTwo status → status ≡ other → (STATUS_REFUSED ≡ other → ⊥) → (STATUS_MEMORY ≡ other → ⊥) → ⊥
 of_two status other (inl refused) is a b = a (sym refused ∙ is)
 of_two status other (inr memory) is a b = b (sym memory ∙ is)
@@ -36,24 +36,24 @@ of_two status other (inr memory) is a b = b (sym memory ∙ is)
 pub no_write_fault : (refusal : Refusal) → refusal_status refusal ≡ STATUS_WRITE_FAULT → ⊥
 no_write_fault refusal is = of_two _ STATUS_WRITE_FAULT (of_refusal refusal) is (λ e. omega (arith, e)) (λ e. omega (arith, e))
 
--- the status of a failed output has one exit
+-- only a write fault exits with STATUS_WRITE_FAULT
 pub write_fault_is : (exit : Exit) → exit_status exit ≡ STATUS_WRITE_FAULT → exit ≡ exits.Ended endings.WriteFault
 write_fault_is (exits.Refused refusal) five = absurd (no_write_fault refusal five)
 write_fault_is (exits.Ended endings.WriteFault) five = refl
 write_fault_is exit five = absurd (omega (arith, five))
 
--- what was told where a command exits
+-- the message of an exit is one that its status allows
 pub exits_told : {exit : Exit} {result : ℕ} {old new : OutputPast} → Exits exit result old new → MessagesTold result old new
 exits_told {exit = exit} is = record { message = exit_message exit; told = is.told; write_message = λ five. ap exit_message (write_fault_is exit (sym is.is ∙ five)) }
 
--- memory ran out exactly where the status says so
+-- the status is STATUS_MEMORY only if memory ran out
 pub kind_memory : (kind : LoadKind) → load_status kind ≡ STATUS_MEMORY → kind ≡ kinds.Memory
 kind_memory kinds.Memory six = refl
 kind_memory kind six = absurd (omega (arith, six))
 
--- ---- an output that was written to
+-- ---- an output before it is closed
 
--- no write failed
+-- an output without a failed write satisfies `IsFinished`
 finished_well : (old new : OutputPast) (HasFailed : Type 0) → HasWritten old new 0 → (HasFailed → ⊥) → IsFinished old new HasFailed
 finished_well old new HasFailed moved well = record {
   appends = moved.appends;
@@ -64,7 +64,7 @@ finished_well old new HasFailed moved well = record {
   still_waiting = λ failed. absurd (well failed);
 }
 
--- the command was refused
+-- the output of a refused command to which no write failed
 pub written_refused : (old new : OutputPast) (refusal : Refusal) → HasWritten old new 0 → OutputWritten (refusal_status refusal) old new
 written_refused old new refusal moved = record {
   finished = finished_well old new _ moved (no_write_fault refusal);
@@ -72,12 +72,12 @@ written_refused old new refusal moved = record {
   refused = λ one. moved.unflushed;
 }
 
--- and nothing was asked of the output
+-- the output of a refused command that never touched it
 pub refused_output : (x : OutputPast) (refusal : Refusal) (status : ℕ) → status ≡ refusal_status refusal → OutputWritten status x x
 refused_output x refusal status is =
     rw is (written_refused x x refusal (written_none x))
 
--- a write failed
+-- the output after a failed write
 written_failed : (old new : OutputPast) → HasWritten old new 1 → OutputWritten STATUS_WRITE_FAULT old new
 written_failed old new moved = record {
   finished = record {
@@ -92,9 +92,9 @@ written_failed old new moved = record {
   refused = λ one. absurd (omega (arith, one));
 }
 
--- ---- an output that is closed
+-- ---- an output that was closed
 
--- it is flushed where the command was not refused and no write failed
+-- the output is flushed if the command was not refused and no write failed
 flushes_so : (exit : Exit) → is_refused exit ≡ false → exit ≢ exits.Ended endings.WriteFault → is_flushed exit ≡ true
 flushes_so (exits.Refused refusal) going other = cc
 flushes_so (exits.Ended endings.WriteFault) going other = absurd (other refl)
@@ -109,7 +109,7 @@ never_refused (exits.Refused refusal) going one = absurd cc
 never_refused (exits.Ended endings.Done) going one = omega (arith, one)
 never_refused exit going one = omega (arith, one)
 
--- what a command wrote from where it began, if no write failed
+-- without a failed write, what a command wrote is its whole text
 wrote_so : {E : Type 0} (start mid : OutputPast) (exit : Exit) → exit ≢ exits.Ended endings.WriteFault → HasWritten start mid (failed_writes exit)
     → Wrote {E = E} start mid (Ok tt) (written_since start mid)
 wrote_so start mid exit other moved = record {
@@ -118,7 +118,7 @@ wrote_so start mid exit other moved = record {
   left = tt;
 }
 
--- all was written, and flushed
+-- all of the text was written, and the flush succeeded
 pub closed_well : {E : Type 0} (Same : Type 0) (exit : Exit) (old new : OutputPast) (wrote : Result (Unit {0}) E) → is_refused exit ≡ false → OnOk wrote (exit ≢ exits.Ended endings.WriteFault)
     → OnErr wrote (IsErr {T = Unit {0}} {E = E} (Ok tt) × Same) → new.written ≡ old.written
     → ((start : OutputPast) (text : List ℕ) → Wrote start old wrote text → IsClosedAfter start new (IsErr {T = Unit {0}} {E = E} (Ok tt)) text)
@@ -138,7 +138,7 @@ closed_well {E = E} Same exit old new (Ok done) going other untouched bytes clos
     }
 closed_well Same exit old new (Err fault) going other untouched bytes closes = let err = untouched.0 in absurd cc
 
--- a write failed before, or the flush now
+-- a write failed before the output was closed, or the flush failed
 pub closed_failed : {X E : Type 0} (past : X → OutputPast) (exit : Exit) (old new : X) (fault : E) (wrote : Result (Unit {0}) E) → is_refused exit ≡ false → OnOk wrote (exit ≢ exits.Ended endings.WriteFault) → OnErr wrote (exit ≡ exits.Ended endings.WriteFault)
     → OnErr wrote (IsErr {T = Unit {0}} (Err fault) × (new ≡ old)) → OnOk wrote ((past new).flushes ≡ (past old).flushes + 1) → (past new).written ≡ (past old).written
     → ((start : OutputPast) (text : List ℕ) → Wrote start (past old) wrote text → IsClosedAfter start (past new) (IsErr {T = Unit {0}} (Err fault)) text)
@@ -164,7 +164,7 @@ closed_failed past exit old new fault (Err before) going other is untouched more
 
 -- ---- how the requests were read
 
--- the status tells the ending
+-- the exit status determines the ending of a run
 zero_is : (ending : Ending) → ending_status ending ≡ STATUS_DONE → ending ≡ endings.Done
 zero_is endings.Done zero = refl
 zero_is ending zero = absurd (omega (arith, zero))
@@ -173,7 +173,7 @@ four_is : (ending : Ending) → ending_status ending ≡ STATUS_READ_FAULT → e
 four_is endings.ReadFault four = refl
 four_is ending four = absurd (omega (arith, four))
 
--- no read failed at a bad line
+-- no read failed if a run ends at a bad request
 three_met : (old new : InputPast) (ending : Ending) → ending_status ending ≡ STATUS_BAD_REQUEST → HasMet ending old new → new.faults ≤ old.faults
 three_met old new (endings.BadRequest number words.Unended) three met = met
 three_met old new (endings.BadRequest number word) three met = omega (arith, met.0)
@@ -182,7 +182,7 @@ three_met old new ending three met = absurd (omega (arith, three))
 pub never_one : (ending : Ending) → ending_status ending ≡ STATUS_REFUSED → ⊥
 never_one ending one = never_refused (exits.Ended ending) refl one
 
--- by how a run of them ended
+-- what the ending of a run implies about how its requests were read
 pub ran_requests : (ending : Ending) (status : ℕ) (old new : InputPast) → status ≡ ending_status ending → IsReadOn old new
     → HasMet ending old new → RequestsRead status old new
 ran_requests ending status old new is read_on met = record {
@@ -193,12 +193,12 @@ ran_requests ending status old new is read_on met = record {
   unasked = λ one. absurd (never_one ending (sym is ∙ one));
 }
 
--- no run that was begun ends as out of memory
+-- no ending of a run has the status STATUS_MEMORY
 pub never_memory : (ending : Ending) → ending_status ending ≡ STATUS_MEMORY → ⊥
 never_memory endings.Done six = omega (arith, six)
 never_memory ending six = omega (arith, six)
 
--- requests that are not asked for
+-- how requests were read by a refused command that reads none
 pub unasked_requests : (refusal : Refusal) (status : ℕ) (old new : InputPast) → status ≡ refusal_status refusal → IsReadOn old new → new ≡ old → RequestsRead status old new
 unasked_requests refusal status old new is read_on same = record {
   read_on = read_on;
@@ -208,7 +208,7 @@ unasked_requests refusal status old new is read_on same = record {
   unasked = λ _. same;
 }
 
--- before the output was closed
+-- what the exit before the output was closed implies about how requests were read
 asked_read : (old new : InputPast) (exit : Exit) → AskedBy old new exit → RequestsRead (exit_status exit) old new
 asked_read old new (exits.Refused refusal) asked = unasked_requests refusal _ old new refl asked.read_on (asked.unasked refl)
 asked_read old new (exits.Ended ending) asked = ran_requests ending _ old new refl asked.read_on asked.met
@@ -234,7 +234,7 @@ asked_read old new (exits.Stopped stop) asked = record {
   unasked = λ one. absurd (omega (arith, one));
 }
 
--- and after it, where the flush may have failed
+-- what the exit after the output was closed, perhaps with a failed flush, implies about how requests were read
 pub closed_requests : (old new : InputPast) (before after : Exit) (f0 f1 status : ℕ) → EndsAs before f0 f1 after → AskedBy old new before → status ≡ exit_status after → RequestsRead status old new
 closed_requests old new before after f0 f1 status ends_so asked is =
     rw is (go ends_so)
@@ -243,6 +243,6 @@ closed_requests old new before after f0 f1 status ends_so asked is =
     go (inl (same, shut)) = subst (λ (e : Exit). RequestsRead (exit_status e) old new) (sym same) (asked_read old new before asked)
     go (inr (failed, flag, more)) = rw failed (ran_requests endings.WriteFault _ old new refl asked.read_on tt)
 
--- an input of which nothing is asked
+-- an input that was not read satisfies `IsReadOn`
 pub read_on_none : (x : InputPast) → IsReadOn x x
 read_on_none x = record { grows = grows-same x.handed x.handed; no_more = omega arith }

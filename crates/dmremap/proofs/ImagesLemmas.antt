@@ -1,4 +1,4 @@
--- What PATHS opens that is a list of images, and from where a run starts then.
+-- What PATHS opens if it is a list of images, and where a run starts then.
 use Rattle.dmremap.proofs.Prelude.{inl, inr, Bool, ℕ, List, [], Option, None, Some, Result, Ok, Err, IfOk, drop, length, map, slice_get, refl, sym, ap, ap₂, subst, is_ok, nat_lt, position, position-Some, cases_Bool, drop_all, LoadFault, Paths, Disk, DiskPath, DeviceSpec, Delivery, InputPast, delivery, IsReadOn, PartRead, TextOf, part_read, read_paths, Description, described, IsSound, OwnedFault, Owners, Gives, OwnedAnswers, images_of, Contents, HeadRefusal, AllSaid, heads_of, Refusal, AreImagesOpened, AreSeen, DisksOpen, HeadsOpen, ImagesOpen, IsStoppedBy, IsUnowned, ListOpens, OpensBy, SaidOpens, StackGives, by_text, disk_message, ended_by, few, len_of, list_in, listed_disks, owners_of, short_of, unless_short, RefusedBy, SoundAs, IsOpened, Loaded, Opening, Stops, images_in, start_over, stored_start}
 use Rattle.dm_table.specs.declared.load.load_fault.LoadKind.TheVariants as kinds
 use Rattle.lvm_volume.specs.declared.owned_metadata.OwnedFault.TheVariants as owned
@@ -10,7 +10,7 @@ use Rattle.dmremap.specs.declared.exit.Refusal.TheVariants as refusals
 use Rattle.dmremap.specs.declared.group_images.GroupImages.{GroupImages}
 use Rattle.std.specs.Prelude.{◌≡◌, ◌≢◌, ◌+◌, ◌-◌, ◌<◌, ◌≤◌, ◌∷◌, if◌then◌else◌}
 
--- ---- a list that is read
+-- ---- a list of images that was read
 
 few_ok : (paths : Result (List DiskPath) LoadFault) (listed : List DiskPath) → few paths ≡ Ok listed → paths ≡ Ok listed
 few_ok (Ok paths) listed is = elim (cases_Bool (nat_lt 1024 (length paths))) as (λ _. (let r : Result (List DiskPath) LoadFault = Ok paths in r) ≡ Ok listed) [
@@ -19,27 +19,27 @@ few_ok (Ok paths) listed is = elim (cases_Bool (nat_lt 1024 (length paths))) as 
 ]
 few_ok (Err fault) listed is = absurd cc
 
--- its images are those of the paths
+-- the places of a stack's disks, by PATHS, are those that the list names
 pub images_listed : (stack : Description) (read : PartRead) (listed : List DiskPath) → list_in read ≡ Some (Ok listed) → images_in stack read ≡ Some (images_of stack listed)
 images_listed stack (TextOf text) listed is =
     let small : few (read_paths text) ≡ Ok listed = cc in
     rw (few_ok (read_paths text) listed small) refl
 images_listed stack read listed is = absurd cc
 
--- so a run starts from what the stores hold in these
+-- a run starts in the state that the stores hold in the listed images
 pub listed_start : (paths : Delivery) (held : Contents) (stack : Description) (listed : List DiskPath) → list_in (part_read Paths paths) ≡ Some (Ok listed)
     → start_over held stack (Some (images_of stack listed)) ≡ stored_start (Some paths) held stack
 listed_start paths held stack listed is = ap (start_over held stack) (sym (images_listed stack (part_read Paths paths) listed is))
 
--- and what the list opens, PATHS does
+-- what the list opens is what PATHS opens
 pub listed_opens : (paths : Delivery) (held : Contents) (listed : List DiskPath) (opening : Opening) → list_in (part_read Paths paths) ≡ Some (Ok listed) → ListOpens listed held opening → ImagesOpen paths held opening
 listed_opens paths held listed opening is opens = subst (λ (list : Option (Result (List DiskPath) LoadFault)). OpensBy held list opening) (sym is) opens
 
--- its disks open what their heads do, up to one that ends before
+-- the disks of a list open what their heads open, unless a disk is too short
 pub heads_open : (paths : List DiskPath) (disks : DiskContents) (heads : Result AllSaid HeadRefusal) (before after : Opening) → heads_of disks (length paths) ≡ heads → HeadsOpen paths heads before → after ≡ ended_by paths disks before → DisksOpen paths disks after
 heads_open paths disks heads before after said opens is = (before, subst (λ (h : Result AllSaid HeadRefusal). HeadsOpen paths h before) (sym said) opens, is)
 
--- so it is with heads that give no stack
+-- if the LVM2 text of the heads gives no stack, PATHS opens none
 pub heads_unopened : (paths : Delivery) (held : Contents) (listed after : List DiskPath) (all : AllSaid) (why : Refusal) → list_in (part_read Paths paths) ≡ Some (Ok listed) → heads_of (listed_disks listed held) (length listed) ≡ Ok all → after ≡ listed
     → IsOpened (HeadsOpen after (Ok all)) (Err why) → IsOpened (ImagesOpen paths held) (Err why)
 heads_unopened paths held listed after all (refusals.Load fault) is said same opened = λ other.
@@ -50,14 +50,14 @@ heads_unopened paths held listed after all (refusals.Head message) is said same 
     (heads_open listed (listed_disks listed held) (Ok all) (Stops message.items) (Stops message.items) said (subst (λ (l : List DiskPath). HeadsOpen l (Ok all) (Stops message.items)) same opened) refl)
 heads_unopened paths held listed after all refusal is said same opened = absurd opened
 
--- with a stack
+-- if the LVM2 text of the heads gives a stack, PATHS opens it unless a disk is too short
 pub heads_loaded : (paths : Delivery) (held : Contents) (listed after : List DiskPath) (all : AllSaid) (stack : Description) (short : Option ℕ) → list_in (part_read Paths paths) ≡ Some (Ok listed) → heads_of (listed_disks listed held) (length listed) ≡ Ok all → after ≡ listed
     → HeadsOpen after (Ok all) (Loaded (SoundAs stack)) → short ≡ short_of stack (listed_disks listed held) 0 listed → ImagesOpen paths held (unless_short listed stack short)
 heads_loaded paths held listed after all stack short is said same opened found =
     listed_opens paths held listed (unless_short listed stack short) is
     (heads_open listed (listed_disks listed held) (Ok all) (Loaded (SoundAs stack)) (unless_short listed stack short) said (subst (λ (l : List DiskPath). HeadsOpen l (Ok all) (Loaded (SoundAs stack))) same opened) (ap (unless_short listed stack) found))
 
--- and with a head that is refused
+-- if a head is refused, PATHS opens with the message about it
 pub head_refused : (paths : Delivery) (held : Contents) (listed after : List DiskPath) (refusal : HeadRefusal) → list_in (part_read Paths paths) ≡ Some (Ok listed)
     → heads_of (listed_disks listed held) (length listed) ≡ Err refusal → after ≡ listed → ImagesOpen paths held (Stops (disk_message (slice_get after refusal.disk) refusal.fault))
 head_refused paths held listed after refusal is said same =
@@ -79,13 +79,13 @@ pub short_end : (stack : Description) (disks : DiskContents) (paths : List DiskP
 unfolding short_of
 short_end stack disks paths disk past = rw (drop_all disk paths past) refl
 
--- a disk that stops it
+-- a disk's head that is refused stops the opening with its message, unless memory ran out
 pub stopped_opens : (Opens : Opening → Type 0) (path : Option DiskPath) (fault : HeadFault) (why : Refusal) → IsStoppedBy path fault why → (fault ≢ faults.Memory → Opens (Stops (disk_message path fault))) → IsOpened Opens (Err why)
 stopped_opens Opens path fault (refusals.Load found) stopped opens = λ other. absurd (other stopped)
 stopped_opens Opens path fault (refusals.Head message) stopped opens = rw stopped.1 (opens stopped.0)
 stopped_opens Opens path fault refusal stopped opens = absurd stopped
 
--- what a text said opens what it opens by the ids and the names that it was read with
+-- the LVM2 text of the heads opens the same when it was read with equal ids and names
 pub text_opens : (paths : List DiskPath) (all : AllSaid) (owners : Owners) (source : List ℕ) (said : Result Tables OwnedFault) (opening : Opening) → owners ≡ owners_of paths all → source ≡ all.text
     → Gives owners source said → SaidOpens paths said opening → HeadsOpen paths (Ok all) opening
 text_opens paths all owners source said opening same text gives opens = (said, subst (λ (o : Owners). Gives o all.text said) same (subst (λ (t : List ℕ). Gives owners t said) text gives), opens)
@@ -105,22 +105,22 @@ unowned_opens paths all owners source (owned.Load fault) why same text gives uno
 pub stack_loaded : (stack : Description) (devices : List DeviceSpec) (disks : List Disk) → stack.devices ≡ devices → stack.disks ≡ disks → IsSound (described devices disks) → StackGives (described devices disks) (SoundAs stack)
 stack_loaded stack devices disks same also sound = (ap₂ described same also, sound)
 
--- what disks of a list hold, if images hold this
+-- listed disks hold what the images hold that agree with all reads
 pub seen_disks : (IsSeen : Contents → Type 0) (paths before : List DiskPath) (held : Contents) → IsSeen held → paths ≡ before → AreSeen IsSeen paths (listed_disks before held)
 seen_disks IsSeen paths before held seen same = record { held = held; seen = seen; same = λ disk sector. rw same refl }
 
--- a list that is refused
+-- a list of paths that is refused refuses the load
 pub list_refused : (paths : Delivery) (held : Contents) (fault : LoadFault) → (fault.kind ≢ kinds.Memory → list_in (part_read Paths paths) ≡ Some (Err fault))
     → fault.kind ≢ kinds.Memory → ImagesOpen paths held (Loaded (RefusedBy fault))
 list_refused paths held fault refused other = rw (refused other) refl
 
--- ---- a list is loaded
+-- ---- a group that was loaded
 
--- a list that stays the same
+-- PATHS still delivered the same list
 pub listed_again : (read : PartRead) (listed after : List DiskPath) → list_in read ≡ Some (Ok listed) → after ≡ listed → list_in read ≡ Some (Ok after)
 listed_again read listed after is same = rw same is
 
--- the heads of a list opened a stack
+-- if the heads of a list opened a stack, the group was opened with it
 pub list_opened : {P I : Type 0} (past : P → InputPast) (IsSeen : I → Contents → Type 0) (old new : GroupImages P I) (result : Result Description Refusal) → list_in (part_read Paths (delivery (past old.list) (past new.list))) ≡ Some (Ok new.disks.paths.items)
     → ((held : Contents) → IsSeen new.disks.images held → IsOpened (ImagesOpen (delivery (past old.list) (past new.list)) held) result) → IsReadOn (past old.list) (past new.list) → IfOk result (λ stack. AreImagesOpened past IsSeen stack old new)
 list_opened past IsSeen old new (Ok stack) listed opened list = record { listed = listed; opened = opened; list = list }

@@ -1,4 +1,4 @@
--- Sectors of a disk of a list, as a read of its image has them.
+-- The sectors of a listed disk, as reads of its image give them.
 use Rattle.dmremap.proofs.Prelude.{◌∙◌, ℕ, List, Some, Result, Ok, Err, arith, length, slice_get, refl, sym, ap, DiskPath, Contents, AreRead, listed_disks, on_disk}
 use Rattle.dm_store.specs.declared.images.ReadFault.{ReadFault}
 use Rattle.dm_store.specs.Images.{AreRead as AreImagesRead}
@@ -16,7 +16,7 @@ held_fault : (found : Result (List ℕ) ReadFault) (fault : ReadFault) (said : H
 held_fault (Ok found) fault said is = absurd cc
 held_fault (Err found) fault said is = refl
 
--- what is read of an image is what the disk holds
+-- what a read of the image gives is what the disk holds
 pub read_there : (held : Contents) (paths : List DiskPath) (path : DiskPath) (disk sector from : ℕ) (bytes : List ℕ) → slice_get paths disk ≡ Some path → from ≡ path.start + sector
     → AreImagesRead (held path.at.number path.file) from (Ok tt) bytes → AreRead (listed_disks paths held disk) sector (Ok tt) bytes
 read_there held paths path disk sector from bytes is at read = λ i below.
@@ -26,7 +26,7 @@ pub unread_there : (held : Contents) (paths : List DiskPath) (path : DiskPath) (
     → AreImagesRead (held path.at.number path.file) from (Err fault) bytes → AreRead (listed_disks paths held disk) sector (Err said) bytes
 unread_there held paths path disk sector from bytes fault said is at unread = λ len. here held paths path disk sector from is at ∙ ap on_disk (unread len)
 
--- and what the disk holds is what was read of the image
+-- what a read of the disk gave is what the image holds
 pub asked_there : (held : Contents) (paths : List DiskPath) (path : DiskPath) (disk sector from : ℕ) (bytes : List ℕ) → slice_get paths disk ≡ Some path → from ≡ path.start + sector
     → AreRead (listed_disks paths held disk) sector (Ok tt) bytes → AreImagesRead (held path.at.number path.file) from (Ok tt) bytes
 asked_there held paths path disk sector from bytes is at read = λ i below.

@@ -1,4 +1,4 @@
--- What the exit of `map` says of the run.
+-- What the exit of `map` implies for its run.
 use Rattle.dmremap.proofs.Prelude.{Bool, ℕ, Option, Some, Err, arith, inl, inr, option_map, refl, sym, ap, ◌∙◌, Delivery, InputPast, OutputPast, delivery, written_since, FailedOutput, IsReadOn, finished_as, Description, State, Ending, HasMet, HasTold, ending_message, refused_ending, Outcome, run_outcome, EarlierFault, HasRun, Answers, End, Failed, FailedAfter, Tells, Writes, end_of, Refusal, ending_status, refusal_status, SoundAs, IsOpened, Loaded, Opening, IsBegunAt, Exits, Moved, OutputWritten, StreamsLeft, ArePlayedOver, Begins, EarlierRead, Maps, MapsOver, Start, answer_after, answer_over, earlier_from, outcome_from}
 use Rattle.dm_stream.specs.declared.runs.ending.Ending.TheVariants as endings
 use Rattle.dm_stream.specs.declared.runs.earlier.EarlierFault.TheVariants as earlier
@@ -10,27 +10,27 @@ use Rattle.dmremap.proofs.AnswerLemmas.{end_refused, loaded_answers, refused_ans
 use Rattle.dmremap.proofs.ExitLemmas.{exits_told, never_one, ran_requests, write_fault_is}
 use Rattle.std.specs.Prelude.{◌≡◌, ◌≢◌, ◌⊎◌, ◌<◌}
 
--- ---- a load
+-- ---- the load
 
--- a run over a stack that was loaded is the run of that load
+-- the answer of a run over a loaded stack is the answer of `map` for that load
 pub loaded_maps : (Opens : Opening → Type 0) (starts : Description → Start) (flag : Bool) (before : Option Delivery) (stack : Description) {requests : Moved InputPast} {output messages : Moved OutputPast} {status : ℕ} → Opens (Loaded (SoundAs stack))
     → Answers (MapsOver (starts stack) stack flag before) requests output messages status → Answers (Maps Opens starts flag before) requests output messages status
 loaded_maps Opens starts flag before stack opens over = loaded_answers Opens (λ asked stack. MapsOver (starts stack) stack flag before asked) stack opens over
 
--- so is one that opened nothing, wherever runs start
+-- a `map` whose opening is refused reports the refusal, wherever runs would start
 pub unopened_maps : (Opens : Opening → Type 0) (starts : Description → Start) (flag : Bool) (before : Option Delivery) (refusal : Refusal) {requests : InputPast} {output : OutputPast} {messages : Moved OutputPast} {status : ℕ} → IsOpened Opens (Err refusal)
     → Exits (exits.Refused refusal) status messages.old messages.new → Answers (Maps Opens starts flag before) (still requests) (still output) messages status
 unopened_maps Opens starts flag before refusal opened exited = unopened_answers Opens (λ asked stack. MapsOver (starts stack) stack flag before asked) refusal opened exited
 
--- earlier requests that were asked for over a stack that was loaded
+-- earlier requests that were read over a loaded stack were read in their turn
 pub earlier_read : {X : Type 0} → (past : X → InputPast) (Opens : Opening → Type 0) (starts : Description → Start) (stack : Description) (old new : Option X) → Opens (Loaded (SoundAs stack))
     → (new ≡ old) ⊎ ArePlayedOver past (starts stack) stack old new → EarlierRead past Opens starts old new
 earlier_read past Opens starts stack old new gives (inl same) = inl same
 earlier_read past Opens starts stack old new gives (inr played) = inr (stack, gives, played)
 
--- ---- a run that does not begin
+-- ---- a run that doesn't begin
 
--- earlier requests that are refused are all that there is to answer
+-- earlier requests that are refused settle the answer
 refused_is : (fault : EarlierFault) (outcome : Outcome) → answer_after (Some (refused_ending fault)) outcome ≡ Some (Tells (end_of (exits.Refused (refusals.Earlier fault))))
 refused_is (earlier.BadRequest number word) outcome = refl
 refused_is earlier.Read outcome = refl
@@ -45,9 +45,9 @@ pub unbegun_maps : (start : Start) (stack : Description) (flag : Bool) (before :
     → Exits (exits.Refused refusal) status messages.old messages.new → Answers (MapsOver start stack flag before) (still requests) (still output) messages status
 unbegun_maps start stack flag before refusal begun exited = refused_answers (MapsOver start stack flag before) refusal (unbegun_tells start stack flag before _ refusal begun) exited
 
--- ---- a run that began
+-- ---- a run that has begun
 
--- the status of a failed output has one ending
+-- only a write fault ends a run with STATUS_WRITE_FAULT
 five_is : (ending : Ending) → ending_status ending ≡ STATUS_WRITE_FAULT → ending ≡ endings.WriteFault
 five_is ending five = let same = write_fault_is (exits.Ended ending) five in cc
 
@@ -55,7 +55,7 @@ fault_or : (ending : Ending) → (ending ≡ endings.WriteFault) ⊎ (ending ≢
 fault_or endings.WriteFault = inl refl
 fault_or ending = inr (λ is. absurd cc)
 
--- what was to be written when the output failed
+-- what the outcome says was to be written when the output failed
 failed_after : (outcome : Outcome) (output : Moved OutputPast) → (output.old.flushes < output.new.flushes → (last : Ending) × (outcome.ending ≡ Some last)) → FailedOutput outcome.output output.old output.new
     → FailedAfter outcome.output (option_map (λ ending. end_of (exits.Ended ending)) outcome.ending) output
 failed_after outcome output settled (inl cut) = inl cut
@@ -63,7 +63,7 @@ failed_after outcome output settled (inr whole) =
     let last = settled (omega (arith, whole.0)) in
     inr (whole.0, (whole.1, end_of (exits.Ended last.0), ap (option_map (λ ending. end_of (exits.Ended ending))) last.1))
 
--- the requests were run, after all earlier ones
+-- a run of the requests, after all earlier ones, gives the answer of `map`
 pub ran_maps : (start : Start) (begun : State) (stack : Description) (flag : Bool) (before : Option Delivery) (reached left : State) (ending : Ending) {requests : Moved InputPast} {output messages : Moved OutputPast} {status : ℕ} → start ≡ Begins begun
     → (earlier_from begun stack before).ending ≡ Some endings.Done → reached ≡ (earlier_from begun stack before).state → HasRun output.old output.new (run_outcome stack flag reached (delivery requests.old requests.new)) left ending → status ≡ ending_status ending
     → HasTold (ending_message ending) messages.old messages.new → Answers (MapsOver start stack flag before) requests output messages status
@@ -90,7 +90,7 @@ ran_maps start begun stack flag before reached left ending {requests} {output} {
         let closed = rw reaches at (ran.output.whole no_fault) in
         Wrote outcome.output (end_of (exits.Ended ending)) (gives ∙ ap (λ (e : Option Ending). Some (Writes outcome.output (end e))) same) (is, told.told) (λ five. no_fault (five_is ending (sym is ∙ five))) whole closed.1
 
--- what it wrote and flushed
+-- what the exit status implies about what a run wrote and flushed
 ran_output : (ending : Ending) (status : ℕ) (outcome : Outcome) (left : State) (old new : OutputPast) → status ≡ ending_status ending → HasRun old new outcome left ending
     → OutputWritten status old new
 ran_output ending status outcome left old new is ran = record {
@@ -99,7 +99,7 @@ ran_output ending status outcome left old new is ran = record {
   refused = λ one. absurd (never_one ending (sym is ∙ one));
 }
 
--- ---- the streams
+-- ---- the streams of a run
 
 pub ran_left : (ending : Ending) (outcome : Outcome) (left : State) {requests : Moved InputPast} {output messages : Moved OutputPast} {status : ℕ} → status ≡ ending_status ending
     → IsReadOn requests.old requests.new → HasMet ending requests.old requests.new → HasRun output.old output.new outcome left ending → HasTold (ending_message ending) messages.old messages.new

@@ -1,4 +1,4 @@
--- What the words and the deliveries give is one, save where the output failed or memory ran out.
+-- Words and deliveries determine one answer, unless the output failed or memory ran out.
 use Rattle.dmremap.proofs.Prelude.{true, false, ℕ, List, [], Option, Some, None, refl, sym, ap, subst, ◌∙◌, AllByRecursion, Delivery, IsClash, IsTidy, claims, Description, State, Ending, NumberedRequest, Requests, requests_of, Asked, HasTop, runs_text, spaced, Exit, Answer, End, IsOne, IsOneSettled, IsSettled, Tells, Writes, end_of, IsPlain, is_flushed, JobWords, RangeWords, print_words, check_words, read_words, replay_words, name_words, split_words, explain_words, Opened, Opening, JobAnswers, JobMakes, has_requests, is_loading, Prints, Refuses, ReportSays, Said, SaidBy, SplitSays, answer_said, line, ReplaysOver, ReplaysStack, Start, AreAnswered, IsAnswer, IsOfNone, IsPlayed, IsWhole, StopsAt, asked_of}
 use Rattle.dm_stack.specs.declared.claims.clash.Clash.{Clash}
 use Rattle.dm_stack.proofs.TopLemmas.{one_clash, one_report}
@@ -12,7 +12,7 @@ use Rattle.dmremap.proofs.ExitLemmas.{write_fault_is}
 use Rattle.dmremap.proofs.OneWhole.{one_opened}
 use Rattle.std.specs.Prelude.{◌≡◌, ◌≢◌, ◌∷◌, ◌++◌}
 
--- What is said to be printed
+-- What is printed is determined
 
 one_split_said : (name : List ℕ) (a b : Said) → SplitSays name a → SplitSays name b → a ≡ b
 one_split_said name (Prints a) (Prints b) x y =
@@ -24,11 +24,11 @@ one_split_said name (Refuses a) (Refuses b) x y = ap Refuses (sym x.1 ∙ y.1)
 one_report_said : (stack : Description) (a b : Said) → ReportSays stack a → ReportSays stack b → a ≡ b
 one_report_said stack a b x y = sym x.2 ∙ ap Prints (one_report stack x.0 y.0 x.1 y.1) ∙ y.2
 
--- the answer that is said
+-- at most one answer writes or reports something that `Says` allows
 one_said_by : (Says : Said → Type 0) → ((a b : Said) → Says a → Says b → a ≡ b) → IsOne (SaidBy Says)
 one_said_by Says one a b x y = sym x.2 ∙ ap answer_said (one x.0 y.0 x.1 y.1) ∙ y.2
 
--- The answers to requests
+-- Answers to requests are determined
 
 one_answer : (stack : Description) (start : State) (asked : List Asked) (request : NumberedRequest) (a b : List ℕ) → IsAnswer stack start asked request a → IsAnswer stack start asked request b → a ≡ b
 one_answer stack start asked request a b is_a is_b =
@@ -46,7 +46,7 @@ told_tops : (stack : Description) (start : State) (asked : List Asked) (requests
 told_tops stack start asked [] text are = tt
 told_tops stack start asked (request ∷ requests) text (first, rest, is, are, whole) = (is.top, told_tops stack start (asked ++ asked_of stack request ∷ []) requests rest are)
 
--- Where a replay stops
+-- Where a replay stops is determined
 
 never_top : (stack : Description) (requests first later : List NumberedRequest) (last : NumberedRequest) → requests ≡ first ++ last ∷ later → AreTop stack requests → (HasTop stack last.values.device → ⊥) → ⊥
 never_top stack requests first later last split tops none = in_midst first (subst (AreTop stack) split tops)
@@ -55,7 +55,7 @@ never_top stack requests first later last split tops none = in_midst first (subs
     in_midst [] tops = none tops.0
     in_midst (request ∷ first) tops = in_midst first tops.1
 
--- two fronts of one list, each up to the first request of no top device
+-- two splits of one list, each at the first request that is for no top device, are equal
 same_front : (stack : Description) (first first' later later' : List NumberedRequest) (last last' : NumberedRequest) → first ++ last ∷ later ≡ first' ++ last' ∷ later'
     → AreTop stack first → AreTop stack first' → (HasTop stack last.values.device → ⊥) → (HasTop stack last'.values.device → ⊥) → (first ≡ first') × (last ≡ last')
 same_front stack [] [] later later' last last' e tops tops' none none' = (refl, cc)
@@ -80,7 +80,7 @@ one_stop stack start requests number other a b is_a is_b =
       one_told stack start [] is_b.first a b (rw same.0 at is_a.told) is_b.told,
     )
 
--- How it exits
+-- How a replay exits is determined
 
 one_end : (stack : Description) (start : State) (requests : Requests) (a b : Exit) (x y : List ℕ) → IsPlain a → IsPlain b → IsPlayed stack start requests x a → IsPlayed stack start requests y b → (a ≡ b) × (x ≡ y)
 one_end stack start requests a b x y plain plain' is is' = go a b plain plain' is is'
@@ -110,13 +110,13 @@ one_end stack start requests a b x y plain plain' is is' = go a b plain plain' i
     go (exits.Stopped stop) b plain plain' is is' = absurd is
     go a (exits.Stopped stop) plain plain' is is' = absurd is'
 
--- What a replay has to answer
+-- The answer of a replay is determined
 
--- no two claims of a tidy stack meet
+-- a tidy stack has no two claims that clash
 never_tidy : (stack : Description) (clash : Clash) → IsClash (claims stack) clash → IsTidy stack → ⊥
 never_tidy stack clash is tidy = let never = one_clash (claims stack) None (Some clash) tidy is in absurd cc
 
--- an exit after which the output was flushed, and not since memory ran out
+-- an exit that flushes the output and isn't for lack of memory is a plain one
 plain_of : (exit : Exit) (end : End) → is_flushed exit ≡ true → end ≡ end_of exit → end.status ≢ STATUS_MEMORY → IsPlain exit
 plain_of exit end flag is settled = (λ five. let same = write_fault_is exit five in absurd cc, λ six. settled (ap (λ (e : End). e.status) is ∙ six))
 
@@ -136,9 +136,9 @@ one_over (start.Begins state) stack requests a b such such' x y = one_of_stack s
 one_over (start.Refuses message) stack requests a b such such' x y = x ∙ sym y
 one_over start.Unsettled stack requests a b such such' x y = absurd x
 
--- What every job has to answer
+-- The answer of every job is determined
 
--- one that loads a source has to answer what it makes of that
+-- a job that loads a source answers what it makes of the opening
 pub job_loads : (job : JobWords) → is_loading job ≡ true → (Opens : Opening → Type 0) (starts : Description → Start) (reads : RangeWords → Description → Option Answer) (requests : Delivery) (answer : Answer) → Opened Opens (JobMakes job starts reads requests) answer → JobAnswers job Opens starts reads requests answer
 job_loads (name_words parts) loading Opens starts reads requests answer opened = absurd cc
 job_loads (split_words name) loading Opens starts reads requests answer opened = absurd cc
@@ -158,7 +158,7 @@ one_other (split_words name) Opens one starts reads requests a b such such' x y 
 one_other (explain_words text) Opens one starts reads requests a b such such' x y = one_said_by _ (λ c d p q. sym p ∙ q) a b x y
 one_other asked Opens one starts reads requests a b such such' x y = one_opened IsSettled Opens (one refl) (JobMakes asked starts reads requests) (one_made asked starts reads requests) a b such such' x y
 
--- a job that reads no requests has one answer, settled or not
+-- a job that reads no requests has at most one answer, settled or not
 one_stack : (asked : JobWords) (starts : Description → Start) (reads : RangeWords → Description → Option Answer) (requests : Delivery) → has_requests asked ≡ false → (stack : Description) → IsOne (JobMakes asked starts reads requests stack)
 one_stack (print_words form from) starts reads requests none stack a b x y = one_said_by _ (λ c d p q. sym p ∙ q) a b x y
 one_stack (check_words from) starts reads requests none stack a b x y = one_said_by (ReportSays stack) (one_report_said stack) a b x y

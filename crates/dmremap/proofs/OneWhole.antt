@@ -1,4 +1,4 @@
--- What is delivered gives one run: the texts describe one description at the most, and none where a check of the texts finds a fault.
+-- What is delivered determines one run: texts describe at most one stack, and none if a check of them finds a fault.
 use Rattle.dmremap.proofs.Prelude.{inl, inr, Bool, ℕ, List, [], Option, Some, None, sym, ap, subst, ◌∙◌, DeviceSpec, Disk, Source, Disks, LoadFault, first_fault, disk_checks, Delivery, PartRead, TextOf, Unread, part_read, Format, Lvm, Tables, TableForm, Description, IsSound, never_both, Load, RefusedBy, SoundAs, Describes, DescribesDevices, DescribesGroupAs, device_checks, GivesFault, MetadataGives, MetadataPartGives, TextsGive, TextPartsGive, PartsGive, Answer, IsOne, Loaded, Opened, Opening, OpeningMakes, PartsOpen, Stops, Maps, MapsOver, Start}
 use Rattle.dm_table.proofs.FaultLemmas.{first_or-none}
 use Rattle.dm_table.proofs.ConciseDescribed.{again as again_concise}
@@ -10,7 +10,7 @@ use Rattle.dm_stack.proofs.OneFault.{one_fault as one_refusal}
 use Rattle.lvm_volume.proofs.OneGroup.{never_refused, one_group, one_refusal as one_text_refusal}
 use Rattle.std.specs.Prelude.{◌≡◌, ◌∷◌, ◌++◌}
 
--- What two texts describe
+-- What two texts describe is determined
 
 abbrev described_as : List DeviceSpec → List Disk → Description
 described_as devices disks = record { devices = devices; disks = disks }
@@ -27,20 +27,20 @@ pub one_description_of : (form : TableForm) (source list : List ℕ) (a b : Desc
 one_description_of form source list a b is_a is_b =
     rw (one_list form source a.devices b.devices is_a.devices is_b.devices, DescribesDisks-unique list a.disks b.disks is_a.disks is_b.disks)
 
--- checks of which none finds anything, before others of which none does
+-- if neither the first nor the later checks find a fault, all checks find none
 none_both : (checks more : List (List LoadFault)) → first_fault checks ≡ None → first_fault more ≡ None → first_fault (checks ++ more) ≡ None
 none_both [] more a b = b
 none_both (check ∷ checks) more a b =
     let first = first_or-none check (first_fault checks) a in
     cc (none_both checks more first.1 b)
 
--- no check of the texts finds a fault in texts that describe something
+-- texts that describe a stack have no fault of their own
 pub no_fault_of_texts : (form : TableForm) (source list : List ℕ) (description : Description) → Describes form source list description → first_fault (device_checks form source ++ disk_checks list) ≡ None
 no_fault_of_texts form source list description is =
     none_both (device_checks form source) (disk_checks list) (no_fault_of_devices form source description.devices is.devices)
     (again_disks list description.disks is.disks).0
 
--- What they give
+-- The outcome of loading two texts is determined
 
 one_fault : (form : TableForm) (source list : List ℕ) (f g : LoadFault) → GivesFault form source list f → GivesFault form source list g → f ≡ g
 one_fault form source list f g (inl a) (inl b) = cc
@@ -50,7 +50,7 @@ one_fault form source list f g (inr a) (inr b) =
     let same = one_description_of form source list a.0 b.0 a.1 b.1 in
     one_refusal b.0 f g (rw same at a.2) b.2
 
--- texts that describe what is sound give no fault
+-- texts that describe a sound stack give no fault
 no_fault : (form : TableForm) (source list : List ℕ) (f : LoadFault) (description : Description) → GivesFault form source list f → Describes form source list description → IsSound description → ⊥
 no_fault form source list f description (inl a) is sound = let none = no_fault_of_texts form source list description is in cc
 no_fault form source list f description (inr a) is sound =
@@ -69,7 +69,7 @@ one_of_parts form (TextOf source) (Refuses fault) a b is_a is_b = is_a ∙ sym i
 one_of_parts form (TextOf source) (TextOf list) a b is_a is_b = one_of_texts form source list a b is_a is_b
 one_of_parts form source list a b is_a is_b = absurd is_a
 
--- What a text of metadata gives
+-- The outcome of loading an LVM2 text is determined
 
 one_described_group : (source : List ℕ) (a b : Description) → DescribesGroupAs source a → DescribesGroupAs source b → a ≡ b
 one_described_group source a b is_a is_b =
@@ -97,20 +97,20 @@ one_of_part (Refuses fault) a b is_a is_b = is_a ∙ sym is_b
 one_of_part (TextOf source) a b is_a is_b = one_of_metadata source a b is_a is_b
 one_of_part Unread a b is_a is_b = absurd is_a
 
--- What every format gives
+-- The outcome of a load in any format is determined
 
 pub one_load : (format : Format) (source disks : Delivery) (a b : Load) → PartsGive format source disks a → PartsGive format source disks b → a ≡ b
 one_load (Tables form) source disks a b is_a is_b = one_of_parts form (part_read Source source) (part_read Disks disks) a b is_a is_b
 one_load Lvm source disks a b is_a is_b = one_of_part (part_read Source source) a b is_a is_b
 
--- What the run gives
+-- The answer of a run is determined
 
 pub one_opening : (format : Format) (source disks : Delivery) (a b : Opening) → PartsOpen format source disks a → PartsOpen format source disks b → a ≡ b
 one_opening format source disks (Loaded a) (Loaded b) is_a is_b = ap Loaded (one_load format source disks a b is_a is_b)
 one_opening format source disks (Stops message) b is_a is_b = absurd is_a
 one_opening format source disks (Loaded a) (Stops message) is_a is_b = absurd is_b
 
--- what opens at most one thing, and makes at most one answer of a stack, gives one answer at the most
+-- at most one answer, if there is at most one opening and at most one answer for each stack
 pub one_opened : (IsSuch : Answer → Type 0) (Opens : Opening → Type 0) → ((a b : Opening) → Opens a → Opens b → a ≡ b) → (Makes : Description → Answer → Type 0) → ((stack : Description) (a b : Answer) → IsSuch a → IsSuch b → Makes stack a → Makes stack b → a ≡ b)
     → (a b : Answer) → IsSuch a → IsSuch b → Opened Opens Makes a → Opened Opens Makes b → a ≡ b
 one_opened IsSuch Opens one Makes each a b such such' x y = go y.opening (subst (λ (o : Opening). OpeningMakes Makes o a) (one x.opening y.opening x.opens y.opens) x.makes) y.makes

@@ -1,4 +1,4 @@
--- The words and lemmas that proofs cite, from one place.
+-- Names and lemmas that proofs cite, re-exported from one place.
 pub use Rattle.dm_map.specs.Prelude.{State, start_state}
 pub use Rattle.dm_read.specs.Prelude.{IsWritten, Reading, device_bytes}
 unfoldable pub use Rattle.dm_read.specs.Prelude.{bytes_of}

@@ -1,4 +1,4 @@
--- What the requests that a player was handed say of a replay.
+-- What the requests that a player was handed imply for a replay.
 use Rattle.dmremap.proofs.Prelude.{ℕ, List, [], None, Some, Result, Err, IfErr, refl, sym, ap, subst, append_assoc, append-nil, IfErr-at_err, Delivery, InputPast, since, IsReadOn, MetNothing, IsCutShort, since-same, IsTidy, IsTop, Description, State, Ending, device_of, IsAmong, NumberedRequest, Requests, requests_of, Asked, asked_answers, world_after, HasTop, AreMaximal, flat, runs_text, named_id, named_top, top_named, Exit, Refusal, Tells, end_of, Does, refusal_status, ReplaysOver, ReplaysStack, AreAnswered, HasPlayed, HasStopped, IsAnswer, IsCutReplay, IsPlayed, StopsAt, asked_of, IsBegunAt, AskedBy, HasMetBy, Begins, Start}
 use Rattle.dm_stream.specs.declared.runs.ending.Ending.TheVariants as endings
 use Rattle.dm_replay.specs.declared.replay_fault.ReplayFault.{ReplayFault}
@@ -12,7 +12,7 @@ use Rattle.std.specs.Prelude.{◌≡◌, ◌≢◌, ◌∷◌, ◌++◌}
 
 -- ---- one request
 
--- the answer to one request is what is written for it alone
+-- the text for a single request is the answer to it
 alone : (stack : Description) (start : State) (old : List Asked) (request : NumberedRequest) (text : List ℕ) → IsAnswer stack start old request text → AreAnswered stack start old (request ∷ []) text
 alone stack start old request text answer = (text, [], answer, refl, append-nil text)
 
@@ -23,7 +23,7 @@ one_played stack start old new request runs w0 w1 named longest are more wrote =
   told = alone stack start old request (since w0 w1) (record { top = named; runs = runs; maximal = longest; answers = are; is = sym wrote });
 }
 
--- a write of its answer failed
+-- if writing the answer to a single request fails, the replay is cut short
 one_cut : (stack : Description) (start : State) (old : List Asked) (request : NumberedRequest) (runs : List ValueRun) (text : List ℕ) → HasTop stack request.values.device → AreMaximal runs
     → flat runs ≡ asked_answers stack (world_after stack start old) (asked_of stack request) → IsCutShort (runs_text stack request.number runs) text → IsCutReplay stack start old (request ∷ []) text
 one_cut stack start old request runs text named longest are short = record {
@@ -35,7 +35,7 @@ one_cut stack start old request runs text named longest are short = record {
   cut = short;
 }
 
--- one request to a replay of this stack, by the id of the device
+-- a single request to a replay of this stack, with the device's id
 
 abbrev pub asked_by : NumberedRequest → (device : ℕ) → Asked
 asked_by request device = record { number = request.number; op = request.values.op; device = device; start = request.values.start; len = request.values.len; halted_after = None }
@@ -65,23 +65,23 @@ pub cut_by_name : (stack of : Description) (start : State) (old : List Asked) (r
 cut_by_name stack of start old request device runs text same named top longest are short =
     one_cut stack start old request runs text (top_by_name stack of request device same named top) longest (answers_by_name stack of start old request device runs same named are) short
 
--- it is not answered
+-- a single request that is not answered stops the replay
 pub one_stopped : (IsCause : NumberedRequest → Type 0) (stack : Description) (start : State) (old : List Asked) (request : NumberedRequest) (w : List ℕ) → IsCause request → StopsAt IsCause stack start old (request ∷ []) (since w w)
 one_stopped IsCause stack start old request w why = record { first = []; last = request; later = []; split = refl; told = sym (since-same w); cause = why }
 
--- a request is not answered, by its fault
+-- a single request that is not answered because of a replay fault stops the replay
 pub stopped_by : {T : Type 0} (Says : ReplayFault → Type 0) (IsCause : NumberedRequest → Type 0) (stack : Description) (start : State) (old : List Asked) (request : NumberedRequest) (w : List ℕ) (r : Result T ReplayFault) (fault : ReplayFault)
     → r ≡ Err fault → IfErr r Says → (Says fault → IsCause request) → StopsAt IsCause stack start old (request ∷ []) (since w w)
 stopped_by Says IsCause stack start old request w r fault is h why = one_stopped IsCause stack start old request w (why (IfErr-at_err Says is h))
 
 -- ---- all requests
 
--- all were answered, and they end by themselves
+-- all requests were answered, and they ended by themselves
 pub all_played : (stack : Description) (start : State) (requests : Requests) (text : List ℕ) (e : Ending) → AreAnswered stack start [] requests.all text → requests.ending ≡ Some e → e ≢ endings.WriteFault → IsPlayed stack start requests text (exits.Ended e)
 all_played stack start requests text endings.WriteFault told ends other = absurd (other refl)
 all_played stack start requests text e told ends other = record { ends_so = ends; told = told }
 
--- it stopped at one of the first
+-- a replay that stopped at one of the first requests stopped at one of all requests
 stops_among : (IsCause : NumberedRequest → Type 0) (stack : Description) (start : State) (all first later : List NumberedRequest) (text : List ℕ) → all ≡ first ++ later → StopsAt IsCause stack start [] first text → StopsAt IsCause stack start [] all text
 stops_among IsCause stack start all first later text is stops = record {
   first = stops.first;
@@ -110,28 +110,28 @@ pub part_played : (stack : Description) (start : State) (exit : Exit) (requests 
     → ((first : List NumberedRequest) → Stopped first → HasStopped stack start exit [] first text) → IsAmong Stopped requests.all → IsPlayed stack start requests text exit
 part_played stack start exit requests text Stopped stopped among = stopped_among stack start exit requests among.first among.later text among.is (stopped among.first among.holds)
 
--- nothing more is read where it stopped
+-- nothing is read after the request at which a replay stopped
 pub stopped_met : (old new : InputPast) (stack : Description) (start : State) (exit : Exit) (asked : List Asked) (requests : List NumberedRequest) (text : List ℕ) → HasStopped stack start exit asked requests text → MetNothing old new → HasMetBy exit old new
 stopped_met old new stack start (exits.NotTop number) asked requests text stopped met = met
 stopped_met old new stack start exits.Memory asked requests text stopped met = tt
 stopped_met old new stack start (exits.Ended endings.WriteFault) asked requests text stopped met = tt
 stopped_met old new stack start exit asked requests text stopped met = absurd stopped
 
--- ---- the stack
+-- ---- the stack of a replay
 
--- a replay that has begun was not refused
+-- a replay that has begun does what an unrefused replay does
 pub played_does : (stack : Description) (start : State) (requests : Delivery) (text : List ℕ) (exit : Exit) → IsTidy stack → IsPlayed stack start (requests_of requests) text exit → Does (ReplaysStack stack start requests) text exit
 played_does stack start requests text (exits.Refused refusal) tidy played = absurd played
 played_does stack start requests text (exits.Ended endings.WriteFault) tidy played =
     (played.whole, None, (tidy, record { first = played.first; later = played.later; split = played.split; told = played.told }), played.cut)
 played_does stack start requests text exit tidy played = (tidy, exit, played, refl, refl)
 
--- it begins from where the stack starts
+-- a replay begins in the state that the stack starts in
 pub begun_replays : (start : Start) (stack : Description) (state reached : State) (requests : Delivery) (text : List ℕ) (exit : Exit) → start ≡ Begins state → reached ≡ state → Does (ReplaysStack stack reached requests) text exit → Does (ReplaysOver start stack requests) text exit
 begun_replays start stack state reached requests text exit begins same =
     does_more (λ answer makes. subst (λ (s : Start). ReplaysOver s stack requests answer) (sym begins) (subst (λ (at : State). ReplaysStack stack at requests answer) same makes)) text exit
 
--- one that does not begin tells why
+-- a replay that doesn't begin answers with its refusal
 pub unbegun_replays : (start : Start) (stack : Description) (requests : Delivery) (refusal : Refusal) → IsBegunAt stack None start (Err refusal) → refusal_status refusal ≢ STATUS_MEMORY → ReplaysOver start stack requests (Tells (end_of (exits.Refused refusal)))
 unbegun_replays start stack requests (refusals.Earlier fault) begun other = absurd (never_done fault begun.2)
 unbegun_replays start stack requests refusal begun other = subst (λ (s : Start). ReplaysOver s stack requests (Tells (end_of (exits.Refused refusal)))) (sym (begun other)) (ap Tells (end_refused refusal other))

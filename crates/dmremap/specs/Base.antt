@@ -1,4 +1,4 @@
--- The words of std and of the crates below that this crate cites, and its types, from one place.
+-- Names of std, of lower crates and of this crate's types, re-exported from one place.
 pub use Rattle.dm_map.specs.Prelude.{State, start_state}
 pub use Rattle.dm_read.specs.Prelude.{Reading, device_bytes, stop_message}
 unfoldable pub use Rattle.dm_read.specs.Prelude.{bytes_of}

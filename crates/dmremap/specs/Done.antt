@@ -1,18 +1,18 @@
--- What a command did until its output is closed.
+-- What a command has done by the time its output is closed.
 use Rattle.dmremap.specs.Base.{ℕ, List, [], Option, Some, OutputPast, written_since, HasWritten, IsCutShort, WriteFault, Exit, Ended, Refused}
 use Rattle.dmremap.specs.Answers.{Answer, End, Tells, Writes, end_of}
 use Rattle.dmremap.specs.declared.status.TheConstants.{STATUS_MEMORY}
 use Rattle.dmremap.specs.Exit.{failed_writes, refusal_status}
 use Rattle.std.specs.Prelude.{◌≡◌, ◌≢◌}
 
--- what was written up to an exit, of a command with such an answer: all of a text; or a beginning, where a write failed; or nothing, where it is refused. That memory ran
--- out says nothing of the answer
+-- what a command wrote before it exits, if its answers satisfy `Is`: the whole text; a proper prefix of it if a write failed; nothing if the command is
+-- refused. A refusal because memory ran out says nothing of the answer
 abbrev pub Does : (Is : Answer → Type 0) → List ℕ → Exit → Type 0
 Does Is text (Refused refusal) = (text ≡ []) × (refusal_status refusal ≢ STATUS_MEMORY → Is (Tells (end_of (Refused refusal))))
 Does Is text (Ended WriteFault) = (whole : List ℕ) × (end : Option End) × Is (Writes whole end) × IsCutShort whole text
 Does Is text exit = Is (Writes text (Some (end_of exit)))
 
--- a command wrote what it does up to this exit, and flushed nothing; a write failed exactly where it exits for one
+-- what a command wrote fits its exit, and it flushed nothing; a write failed exactly if the exit is a write fault
 pub record HasDone (Did : List ℕ → Exit → Type 0) (old new : OutputPast) (exit : Exit) : Type 0 where
   pub did : Did (written_since old new) exit
   pub writes : HasWritten old new (failed_writes exit)

@@ -9,36 +9,36 @@ use Rattle.dmremap.specs.declared.exit.Refusal.TheVariants as refusals
 use Rattle.dmremap.specs.declared.status.TheConstants.{STATUS_BAD_REQUEST, STATUS_DONE, STATUS_MEMORY, STATUS_READ_FAULT, STATUS_REFUSED, STATUS_STOPPED, STATUS_WRITE_FAULT}
 use Rattle.std.specs.Prelude.{◌≡◌, ◌≢◌}
 
--- ---- the status
+-- ---- exit statuses
 
--- the status of a refused load
+-- the exit status of a load that is refused
 abbrev pub load_status : LoadKind → ℕ
 load_status kinds.Memory = STATUS_MEMORY
 load_status kind = STATUS_REFUSED
 
--- the status of a name that isn't built
+-- the exit status for a name that can't be built
 abbrev pub name_status : NameFault → ℕ
 name_status names.Memory = STATUS_MEMORY
 name_status fault = STATUS_REFUSED
 
--- the status of a refused command
+-- the exit status of a refused command
 abbrev pub refusal_status : Refusal → ℕ
 refusal_status (refusals.Load fault) = load_status fault.kind
 refusal_status (refusals.Name fault) = name_status fault
 refusal_status refusal = STATUS_REFUSED
 
--- memory ran out before anything was written
+-- the command is refused because memory ran out
 abbrev pub IsOutOfMemory : Refusal → Type 0
 IsOutOfMemory refusal = refusal_status refusal ≡ STATUS_MEMORY
 
--- the status of a run that ended so
+-- the exit status of a run that ended like this
 abbrev pub ending_status : Ending → ℕ
 ending_status endings.Done = STATUS_DONE
 ending_status (endings.BadRequest number word) = STATUS_BAD_REQUEST
 ending_status endings.ReadFault = STATUS_READ_FAULT
 ending_status endings.WriteFault = STATUS_WRITE_FAULT
 
--- the status of a command
+-- the exit status of a command
 abbrev pub exit_status : Exit → ℕ
 exit_status (exits.Refused refusal) = refusal_status refusal
 exit_status (exits.Ended ending) = ending_status ending
@@ -46,11 +46,11 @@ exit_status (exits.NotTop number) = STATUS_BAD_REQUEST
 exit_status exits.Memory = STATUS_MEMORY
 exit_status (exits.Stopped stop) = STATUS_STOPPED
 
--- neither the output failed nor memory ran out
+-- the exit is neither a failed output nor running out of memory
 abbrev pub IsPlain : Exit → Type 0
 IsPlain exit = (exit_status exit ≢ STATUS_WRITE_FAULT) × (exit_status exit ≢ STATUS_MEMORY)
 
--- ---- the message
+-- ---- exit messages
 
 -- the message of a refused command
 abbrev pub refusal_message : Refusal → List ℕ
@@ -64,7 +64,7 @@ refusal_message refusals.Untidy = codes "dmremap: replay: untidy\n"
 refusal_message refusals.Device = codes "dmremap: device: unknown\n"
 refusal_message refusals.PastEnd = codes "dmremap: device: range\n"
 
--- the message of a command: none where it did all that was asked
+-- the message of a command; empty if the command did all that was asked
 abbrev pub exit_message : Exit → List ℕ
 exit_message (exits.Refused refusal) = refusal_message refusal
 exit_message (exits.Ended ending) = ending_message ending
@@ -72,25 +72,25 @@ exit_message (exits.NotTop number) = refused_request number (codes "not top")
 exit_message exits.Memory = memory_message
 exit_message (exits.Stopped stop) = stop_message stop
 
--- ---- the output
+-- ---- the output at an exit
 
--- nothing was written
+-- the command was refused, and so wrote nothing
 abbrev pub is_refused : Exit → Bool
 is_refused (exits.Refused refusal) = true
 is_refused _ = false
 
--- the output is flushed at the end: there is nothing to flush of a command that was refused, and nothing more is asked after a write that failed
+-- whether the output is flushed at the exit: not if the command was refused, nor after a write that failed
 abbrev pub is_flushed : Exit → Bool
 is_flushed (exits.Refused refusal) = false
 is_flushed (exits.Ended endings.WriteFault) = false
 is_flushed _ = true
 
--- how many writes failed
+-- how many writes failed before this exit
 abbrev pub failed_writes : Exit → ℕ
 failed_writes (exits.Ended ending) = write_faults ending
 failed_writes _ = 0
 
--- the exit after all was written, or after a write that failed
+-- the exit of a command that wrote all of its text, or whose write failed
 abbrev pub exit_after : {E : Type 0} → Result (Unit {0}) E → Exit
 exit_after (Ok done) = exits.Ended endings.Done
 exit_after (Err fault) = exits.Ended endings.WriteFault

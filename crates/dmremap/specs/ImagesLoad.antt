@@ -1,4 +1,4 @@
--- What the images of a list of paths open: a load of the text that their heads have, or a message where a head is refused.
+-- What the images listed in PATHS open: a load of the LVM2 text found in their heads, or a message if a head is refused.
 use Rattle.dmremap.specs.Base.{ℕ, List, [], Option, Some, None, Result, Ok, Err, length, map, nat_lt, position, slice_get, option_map_or, is_ok, LoadFault, Limit, Memory, Paths, DiskPath, Delivery, InputPast, delivery, IsReadOn, fault_at, PartRead, TextOf, Refuses, Unread, part_read, read_paths, Description, described, disk_len, is_same, IsSound, IsRefusedBy, Contents, HeadRefusal, Sectors, AllSaid, heads_of, head_message, Owners, Gives, Refusal}
 use Rattle.dm_store.specs.declared.images.ReadFault.{ReadFault}
 use Rattle.lvm_head.specs.declared.disks.ReadFault.{ReadFault as HeadReadFault}
@@ -16,14 +16,14 @@ use Rattle.dmremap.specs.Load.{Load, RefusedBy, SoundAs}
 use Rattle.dmremap.specs.Opening.{Loaded, Opening, Stops}
 use Rattle.std.specs.Prelude.{◌≡◌, ◌≢◌, ◌⊎◌, ◌+◌, ◌-◌, ◌∷◌, if◌then◌else◌}
 
--- ---- what the disks of a list hold, by what images do
+-- ---- the contents of listed disks, by those of images
 
--- a sector of an image as one of a disk
+-- the result of reading a sector of an image, as the result of reading a sector of a disk
 abbrev pub on_disk : Result (List ℕ) ReadFault → Result (List ℕ) HeadReadFault
 on_disk (Ok bytes) = Ok bytes
 on_disk (Err fault) = Err (record {})
 
--- a disk that lies where a path has it; there is none without a path
+-- the sectors of a disk at this path: they begin at sector `path.start` of the image; without a path every read fails
 abbrev pub at_path : Contents → Option DiskPath → Sectors
 at_path held (Some path) sector = on_disk (held path.at.number path.file (path.start + sector))
 at_path held None sector = Err (record {})
@@ -31,56 +31,56 @@ at_path held None sector = Err (record {})
 abbrev pub listed_disks : List DiskPath → Contents → DiskContents
 listed_disks paths held disk sector = at_path held (slice_get paths disk) sector
 
--- these disks hold what images hold that agree with all that was read of them
+-- the disks hold what some images hold that agree with every read so far
 pub record AreSeen (IsSeen : Contents → Type 0) (paths : List DiskPath) (disks : DiskContents) : Type 0 where
   pub held : Contents
   pub seen : IsSeen held
   pub same : (disk sector : ℕ) → disks disk sector ≡ listed_disks paths held disk sector
 
--- ---- what opens a run
+-- ---- what a list of images opens
 
--- the message of a disk of a list whose head is refused
+-- the message about a listed disk whose head is refused
 abbrev pub disk_message : Option DiskPath → HeadFault → List ℕ
 disk_message (Some path) fault = head_message path.disk fault
 disk_message None fault = []
 
--- devices and disks of which nothing is checked yet give this load
+-- the outcomes of loading devices and disks that are not checked yet
 abbrev pub StackGives : Description → Load → Type 0
 StackGives stack (RefusedBy fault) = IsRefusedBy stack fault
 StackGives stack (SoundAs description) = (description ≡ stack) × IsSound stack
 
--- why a disk is refused by its text
+-- the fault of a disk's head for a disk that the LVM2 text refuses
 abbrev pub by_text : DiskFault → HeadFault
 by_text taken.Foreign = faults.Foreign
 by_text taken.Missing = faults.Missing
 by_text taken.Array = faults.Array
 
--- what a text said opens this
+-- what the LVM2 text found in the heads opens: a load of its tables, or a message about a disk that it refuses
 abbrev pub SaidOpens : List DiskPath → Result Tables OwnedFault → Opening → Type 0
 SaidOpens paths (Ok tables) (Loaded load) = StackGives (described tables.0 tables.1) load
 SaidOpens paths (Ok tables) (Stops message) = ⊥
 SaidOpens paths (Err (owned.Load fault)) opening = opening ≡ Loaded (RefusedBy fault)
 SaidOpens paths (Err (owned.Disk disk fault)) opening = opening ≡ Stops (disk_message (slice_get paths disk) (by_text fault))
 
--- the ids that heads said, and the names of their disks
+-- the ids found in the heads, and the names of their disks
 abbrev pub owners_of : List DiskPath → AllSaid → Owners
 owners_of paths all = record { ids = all.ids; names = map (λ path. path.disk) paths }
 
--- what heads said opens this: by their text, or the first that is refused
+-- what the heads open: a load of their LVM2 text, or a message about the first head that is refused
 abbrev pub HeadsOpen : List DiskPath → Result AllSaid HeadRefusal → Opening → Type 0
 HeadsOpen paths (Ok all) opening = (said : Result Tables OwnedFault) × Gives (owners_of paths all) all.text said × SaidOpens paths said opening
 HeadsOpen paths (Err refusal) opening = opening ≡ Stops (disk_message (slice_get paths refusal.disk) refusal.fault)
 
--- how many sectors a disk has by the text
+-- how many sectors a stack gives the disk of this name; 0 if it has none
 abbrev pub len_of : Description → (name : List ℕ) → ℕ
 len_of stack name = option_map_or (disk_len stack) (position (λ disk. is_same disk.name name) stack.disks) 0
 
--- the first disk of a list, from one on, that hasn't the last sector that it has by the text
+-- the first disk of a list, counting from `disk`, whose last sector, according to the description, can't be read
 unfoldable pub short_of : Description → DiskContents → (disk : ℕ) → List DiskPath → Option ℕ
 short_of stack disks disk [] = None
 short_of stack disks disk (path ∷ later) = if is_ok (disks disk (len_of stack path.disk - 1)) then short_of stack disks (disk + 1) later else Some disk
 
--- such a disk stops what heads opened
+-- the stack is opened, unless a listed disk is too short for it; then a message about that disk
 abbrev pub unless_short : List DiskPath → Description → Option ℕ → Opening
 unless_short paths stack (Some disk) = Stops (disk_message (slice_get paths disk) faults.Ends)
 unless_short paths stack None = Loaded (SoundAs stack)
@@ -90,19 +90,19 @@ ended_by paths disks (Loaded (SoundAs stack)) = unless_short paths stack (short_
 ended_by paths disks (Loaded (RefusedBy fault)) = Loaded (RefusedBy fault)
 ended_by paths disks (Stops message) = Stops message
 
--- the images of a list open this: what their heads do, if no disk ends before
+-- what the disks of a list open: what their heads open, unless a disk is too short
 abbrev pub DisksOpen : List DiskPath → DiskContents → Opening → Type 0
 DisksOpen paths disks opening = (before : Opening) × HeadsOpen paths (heads_of disks (length paths)) before × (opening ≡ ended_by paths disks before)
 
 abbrev pub ListOpens : List DiskPath → Contents → Opening → Type 0
 ListOpens paths held = DisksOpen paths (listed_disks paths held)
 
--- a list that names more disks than a stack may have is refused at the first that is one too many
+-- refuses a list of more than 1024 disks, as many as a stack may have, at disk 1025
 abbrev pub few : Result (List DiskPath) LoadFault → Result (List DiskPath) LoadFault
 few (Ok paths) = if nat_lt 1024 (length paths) then Err (fault_at Paths Limit 1025) else Ok paths
 few (Err fault) = Err fault
 
--- the list that PATHS is, or why it is none, if that is settled
+-- the list of paths in PATHS, or the fault that refuses it; None while that isn't settled
 abbrev pub list_in : PartRead → Option (Result (List DiskPath) LoadFault)
 list_in (TextOf text) = Some (few (read_paths text))
 list_in (Refuses fault) = Some (Err fault)
@@ -113,36 +113,36 @@ OpensBy held (Some (Ok paths)) opening = ListOpens paths held opening
 OpensBy held (Some (Err fault)) opening = opening ≡ Loaded (RefusedBy fault)
 OpensBy held None opening = ⊥
 
--- what PATHS delivered opens this, by what images hold
+-- what the delivered bytes of PATHS open, if images hold `held`
 abbrev pub ImagesOpen : (paths : Delivery) → Contents → Opening → Type 0
 ImagesOpen paths held opening = OpensBy held (list_in (part_read Paths paths)) opening
 
--- ---- what a call returns
+-- ---- refusals
 
--- a disk stops a run by its message, unless memory ran out
+-- how a disk's head refuses a run: with the message of its fault, or because memory ran out
 abbrev pub IsStoppedBy : Option DiskPath → HeadFault → Refusal → Type 0
 IsStoppedBy path fault (refusals.Load found) = found.kind ≡ Memory
 IsStoppedBy path fault (refusals.Head message) = (fault ≢ faults.Memory) × (message.items ≡ disk_message path fault)
 IsStoppedBy path fault refusal = ⊥
 
--- the fault of a text does
+-- how a fault of the LVM2 text refuses a run: with a disk's message, or with the fault of the load
 abbrev pub IsUnowned : List DiskPath → OwnedFault → Refusal → Type 0
 IsUnowned paths (owned.Disk disk fault) why = IsStoppedBy (slice_get paths disk) (by_text fault) why
 IsUnowned paths (owned.Load fault) why = why ≡ refusals.Load fault
 
--- ---- what was asked for
+-- ---- how PATHS and images were read
 
--- images are asked for only where PATHS is a list
+-- images are read only if PATHS delivered a list of paths
 abbrev pub AreImagesUsed : {X : Type 0} → (paths : Delivery) → (old new : X) → Type 0
 AreImagesUsed paths old new = (new ≡ old) ⊎ ((listed : List DiskPath) × (list_in (part_read Paths paths) ≡ Some (Ok listed)))
 
--- PATHS was read as a list, and the heads of its disks opened this stack
+-- PATHS delivered a list of paths, and the heads of its disks opened this stack
 pub record AreImagesOpened {P I : Type 0} (past : P → InputPast) (IsSeen : I → Contents → Type 0) (stack : Description) (old new : GroupImages P I) : Type 0 where
   pub listed : list_in (part_read Paths (delivery (past old.list) (past new.list))) ≡ Some (Ok new.disks.paths.items)
   pub opened : (held : Contents) → IsSeen new.disks.images held → ImagesOpen (delivery (past old.list) (past new.list)) held (Loaded (SoundAs stack))
   pub list : IsReadOn (past old.list) (past new.list)
 
--- PATHS was only read on, and nothing is asked of it after an end or a fault; images are asked for only where it is a list
+-- PATHS was not read after its end or a fault, and images were read only if PATHS delivered a list
 pub record AreImagesRead {P I : Type 0} (past : P → InputPast) (old new : GroupImages P I) : Type 0 where
   pub list : IsReadOn (past old.list) (past new.list)
   pub images : AreImagesUsed (delivery (past old.list) (past new.list)) old.disks.images new.disks.images

@@ -1,4 +1,4 @@
--- What a job says: its command with the texts of its words.
+-- A job as its command and the texts of its words.
 use Rattle.dmremap.specs.Base.{ℕ, Bool, Option, option_map, NameParts, Format, Job, TableForm}
 use Rattle.clap.specs.Words.{Text}
 use Rattle.dmremap.specs.declared.job.Job.TheVariants as job
@@ -6,18 +6,18 @@ use Rattle.dmremap.specs.declared.job.SectorRange.{SectorRange}
 use Rattle.dmremap.specs.declared.job.Source.{Source}
 use Rattle.dmremap.specs.declared.job.Source.TheVariants as source
 
--- a source with its texts themselves
+-- what a command loads: a file, perhaps with a disk list, or a list of images; each named by its word's text
 pub data SourceWords : Type 0 where
   file_words : Format → (file : Text) → (disks : Option Text) → SourceWords
   image_words : (list : Text) → SourceWords
 
--- sectors that are asked for, with the text of their device's name
+-- the sectors that `read` is asked for, and the device's name; without a count, all up to the device's end
 pub record RangeWords : Type 0 where
   pub device : Text
   pub from : ℕ
   pub count : Option ℕ
 
--- a job with its texts themselves
+-- a job, with the texts of its words
 pub data JobWords : Type 0 where
   map_words : SourceWords → (paths earlier : Option Text) → (status : Bool) → JobWords
   metadata_words : (list : Text) → JobWords
@@ -29,16 +29,16 @@ pub data JobWords : Type 0 where
   split_words : Text → JobWords
   explain_words : Text → JobWords
 
--- the texts of a source
+-- a source, with the texts of its words
 abbrev pub source_words : Source → SourceWords
 source_words (source.Files format file disks) = file_words format file.now (option_map (λ path. path.now) disks)
 source_words (source.Images list) = image_words list.now
 
--- the text of a range
+-- a range of sectors, with the text of its device's name
 abbrev pub range_words : SectorRange → RangeWords
 range_words range = record { device = range.device.now; from = range.from; count = range.count }
 
--- the texts of a job
+-- a job with its borrowed words replaced by their texts
 abbrev pub job_words : Job → JobWords
 job_words (job.Map from paths earlier status) =
     map_words (source_words from) (option_map (λ path. path.now) paths) (option_map (λ path. path.now) earlier) status

@@ -1,4 +1,4 @@
--- The figures of the limits and of the exit statuses.
+-- The values of the limits and of the exit statuses.
 use Rattle.dm_table.specs.declared.load.part_input.TheConstants.{MOST_PART_BYTES}
 use Rattle.dm_stack.specs.declared.checks.graph.TheConstants.{MOST_DEPTH}
 use Rattle.dm_stack.specs.declared.checks.limits.TheConstants.{MOST_CHUNK, MOST_DEVICES, MOST_DISKS, MOST_LENGTH, MOST_LINES, MOST_STRIPES}
@@ -7,7 +7,7 @@ use Rattle.dm_stream.specs.declared.requests.handling.TheConstants.{MOST_REQUEST
 use Rattle.dmremap.specs.declared.status.TheConstants.{STATUS_BAD_REQUEST, STATUS_DONE, STATUS_MEMORY, STATUS_READ_FAULT, STATUS_REFUSED, STATUS_WORDS, STATUS_WRITE_FAULT}
 use Rattle.std.specs.Prelude.{◌≡◌, ◌+◌, ◌^◌}
 
--- the limits that the documents name
+-- the limits and exit statuses that the documents promise
 pub record AreLimits : Type 0 where
   pub part_bytes : MOST_PART_BYTES ≡ 1048576
   pub line_bytes : MOST_LINE_BYTES ≡ 4096

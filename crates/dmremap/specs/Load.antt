@@ -2,46 +2,46 @@
 use Rattle.dmremap.specs.Base.{ℕ, List, Some, Result, IfOk, IfErr, LoadFault, Memory, Source, Disks, Delivery, first_fault, PartRead, TextOf, Refuses, Unread, part_read, DescribesTable, table_checks, DescribesDisks, disk_checks, Description, IsSound, IsRefusedBy, DeviceSpec, DescribesConcise, concise_checks, Format, Lvm, Tables, TableForm, Concise, Table, DescribesGroup, IsRefusedText}
 use Rattle.std.specs.Prelude.{◌≡◌, ◌≢◌, ◌⊎◌, ◌++◌}
 
--- what a load gives
+-- the outcome of a load: refused with a fault, or sound as a description
 pub data Load : Type 0 where
   RefusedBy : LoadFault → Load
   SoundAs : Description → Load
 
--- what is given is returned: a sound stack, or the fault, unless memory ran out
+-- the result is an outcome that `Gives` allows: a sound stack or a fault; running out of memory is always allowed
 pub record Loads (Gives : Load → Type 0) (result : Result Description LoadFault) : Type 0 where
   pub sound : IfOk result (λ stack. Gives (SoundAs stack))
   pub refused : IfErr result (λ fault. fault.kind ≢ Memory → Gives (RefusedBy fault))
 
--- ---- a text of devices in a form, and a disk list
+-- ---- a text of devices and a disk list
 
--- the text describes these devices
+-- the text describes these devices, in the given form
 abbrev pub DescribesDevices : TableForm → List ℕ → List DeviceSpec → Type 0
 DescribesDevices Table text devices = DescribesTable text devices
 DescribesDevices Concise text devices = DescribesConcise text devices
 
--- the checks of the text by itself
+-- the checks of a text of devices alone, before the stack is checked
 abbrev pub device_checks : TableForm → List ℕ → List (List LoadFault)
 device_checks Table text = table_checks text
 device_checks Concise text = concise_checks text
 
--- the texts describe this, of which nothing is checked yet
+-- the two texts describe a stack that is not checked yet
 pub record Describes (form : TableForm) (source list : List ℕ) (description : Description) : Type 0 where
   pub devices : DescribesDevices form source description.devices
   pub disks : DescribesDisks list description.disks
 
--- the texts give a fault: one of their own, the source's first, or one of what they describe
+-- the fault is the first one in the two texts, where the source is checked first, or a fault of the stack that they describe
 abbrev pub GivesFault : TableForm → List ℕ → List ℕ → LoadFault → Type 0
 GivesFault form source list fault =
     (first_fault (device_checks form source ++ disk_checks list) ≡ Some fault)
     ⊎ ((description : Description) × Describes form source list description × IsRefusedBy description fault)
 
--- what the two texts give
+-- the outcomes of loading the two texts
 abbrev pub TextsGive : TableForm → List ℕ → List ℕ → Load → Type 0
 TextsGive form source list (RefusedBy fault) = GivesFault form source list fault
 TextsGive form source list (SoundAs description) =
     Describes form source list description × IsSound description
 
--- what the two parts give: one that was not read is refused before any text is looked at
+-- the outcomes of loading two parts: a part that can't be read refuses the load before any text is checked
 abbrev pub TextPartsGive : TableForm → PartRead → PartRead → Load → Type 0
 TextPartsGive form (Refuses fault) list load = load ≡ RefusedBy fault
 TextPartsGive form (TextOf source) (Refuses fault) load = load ≡ RefusedBy fault
@@ -49,28 +49,28 @@ TextPartsGive form (TextOf source) (TextOf list) load = TextsGive form source li
 TextPartsGive form (TextOf source) Unread load = ⊥
 TextPartsGive form Unread list load = ⊥
 
--- ---- a text of LVM2 metadata
+-- ---- an LVM2 text
 
--- the text describes a group of these devices and disks, of which nothing is checked yet
+-- the text describes a volume group of these devices and disks, which are not checked yet
 abbrev pub DescribesGroupAs : List ℕ → Description → Type 0
 DescribesGroupAs source description = DescribesGroup source (description.devices, description.disks)
 
--- what the text gives: a fault of its own, or one of what it describes; or a sound stack
+-- the outcomes of loading an LVM2 text: a fault of its own, a fault of the stack that it describes, or a sound stack
 abbrev pub MetadataGives : List ℕ → Load → Type 0
 MetadataGives source (RefusedBy fault) =
     IsRefusedText source fault
     ⊎ ((description : Description) × DescribesGroupAs source description × IsRefusedBy description fault)
 MetadataGives source (SoundAs description) = DescribesGroupAs source description × IsSound description
 
--- what the one part gives: it is refused before its text is looked at where it was not read
+-- the outcomes of loading one part: if it can't be read, the load is refused before any text is checked
 abbrev pub MetadataPartGives : PartRead → Load → Type 0
 MetadataPartGives (Refuses fault) load = load ≡ RefusedBy fault
 MetadataPartGives (TextOf source) load = MetadataGives source load
 MetadataPartGives Unread load = ⊥
 
--- ---- every format
+-- ---- a load in any format
 
--- what the source and the disk list give that were delivered: an arm for each format, which takes the parts that it has
+-- the outcomes of loading what the source and the disk list delivered in this format; an LVM2 text has no disk list
 abbrev pub PartsGive : Format → Delivery → Delivery → Load → Type 0
 PartsGive Lvm source disks load = MetadataPartGives (part_read Source source) load
 PartsGive (Tables form) source disks load = TextPartsGive form (part_read Source source) (part_read Disks disks) load

@@ -1,4 +1,4 @@
--- What the commands but `map` have to answer, by their words, by what opens them and by the requests that were delivered.
+-- What the commands other than `map` and `metadata` answer, given their words, their opening and the delivered requests.
 use Rattle.dmremap.specs.Base.{Bool, true, false, Option, Some, Delivery, Description, built}
 use Rattle.dmremap.specs.Answers.{Answer}
 use Rattle.dmremap.specs.Explanation.{explanation}
@@ -9,30 +9,30 @@ use Rattle.dmremap.specs.ReplayWhole.{ReplaysOver}
 use Rattle.dmremap.specs.Whole.{Start}
 use Rattle.std.specs.Prelude.{◌≡◌}
 
--- the job is another than `map`, and not of the heads of images alone
+-- the job is neither `map` nor `metadata`
 abbrev pub is_other : JobWords → Bool
 is_other (map_words from paths earlier status) = false
 is_other (metadata_words list) = false
 is_other _ = true
 
--- it loads a source
+-- the job loads a source
 abbrev pub is_loading : JobWords → Bool
 is_loading (name_words parts) = false
 is_loading (split_words name) = false
 is_loading (explain_words word) = false
 is_loading _ = true
 
--- it reads requests
+-- the job reads requests
 abbrev pub has_requests : JobWords → Bool
 has_requests (replay_words from paths) = true
 has_requests _ = false
 
--- it reads sectors of a device
+-- the job reads sectors of a device
 abbrev pub is_reading : JobWords → Bool
 is_reading (read_words from paths range) = true
 is_reading _ = false
 
--- what it makes of a stack: its devices are printed in a form, or its report; or requests are replayed on its disks, or sectors of a device are read
+-- what a job answers for a stack: it prints the devices or the report, replays requests on the disks, or reads sectors of a device
 abbrev pub JobMakes : JobWords → (starts : Description → Start) → (reads : RangeWords → Description → Option Answer) → (requests : Delivery) → Description → Answer → Type 0
 JobMakes (print_words form from) starts reads requests stack = SaidBy (λ said. Prints (written_as form stack.devices) ≡ said)
 JobMakes (check_words from) starts reads requests stack = SaidBy (ReportSays stack)
@@ -40,7 +40,7 @@ JobMakes (replay_words from paths) starts reads requests stack = ReplaysOver (st
 JobMakes (read_words from paths range) starts reads requests stack = λ answer. reads range stack ≡ Some answer
 JobMakes _ starts reads requests stack = λ answer. ⊥
 
--- what it has to answer: what the words say, where it loads nothing
+-- what a job answers: its words alone decide if it loads nothing, or else the stack that it opens
 abbrev pub JobAnswers : JobWords → (Opens : Opening → Type 0) → (starts : Description → Start) → (reads : RangeWords → Description → Option Answer) → (requests : Delivery) → Answer → Type 0
 JobAnswers (name_words parts) Opens starts reads requests = SaidBy (λ said. name_said (built parts) ≡ said)
 JobAnswers (split_words name) Opens starts reads requests = SaidBy (SplitSays name)

@@ -1,4 +1,4 @@
--- What became of FILE, DISKS, PATHS and images that open a command.
+-- What became of FILE, DISKS, PATHS and the images once a command opened.
 use Rattle.dmremap.specs.Base.{InputPast, delivery, IsReadOn, Description, Contents}
 use Rattle.dmremap.specs.declared.parts.Parts.{Parts}
 use Rattle.dmremap.specs.Inputs.{IsReadOnIf, delivered_if, delivery_if}
@@ -7,7 +7,7 @@ use Rattle.dmremap.specs.Opening.{Loaded, PartsOpen}
 use Rattle.dmremap.specs.StoredStart.{ReadInTurn}
 use Rattle.std.specs.Prelude.{◌≡◌}
 
--- FILE and DISKS opened this stack, and nothing else was asked for
+-- FILE and DISKS opened this stack; PATHS and the images are untouched
 pub record ArePartsOpened {S D P I : Type 0} (source_past : S → InputPast) (disks_past : D → InputPast) (stack : Description) (old new : Parts S D P I) : Type 0 where
   pub opened : PartsOpen old.format (delivery (source_past old.source) (source_past new.source)) (delivery_if disks_past old.disks new.disks) (Loaded (SoundAs stack))
   pub source : IsReadOn (source_past old.source) (source_past new.source)
@@ -15,12 +15,12 @@ pub record ArePartsOpened {S D P I : Type 0} (source_past : S → InputPast) (di
   pub paths : new.paths ≡ old.paths
   pub images : new.images ≡ old.images
 
--- each part was only read on, and nothing is asked of it after an end or a fault
+-- no part was read after its end or a fault, and each was read only in its turn
 pub record ArePartsRead {S D P I : Type 0} (source_past : S → InputPast) (disks_past : D → InputPast) (paths_past : P → InputPast) (IsSeen : I → Contents → Type 0) (old new : Parts S D P I) : Type 0 where
   pub source : IsReadOn (source_past old.source) (source_past new.source)
   pub disks : IsReadOnIf disks_past old.disks new.disks
   pub paths : IsReadOnIf paths_past old.paths new.paths
-  -- the list of paths is asked for only over a load that gave a stack, and images only where that list says where its disks lie
+  -- PATHS is read only after a load gave a stack, and images only after PATHS said where the disks lie
   pub in_turn : ReadInTurn (PartsOpen old.format (delivery (source_past old.source) (source_past new.source)) (delivery_if disks_past old.disks new.disks)) (delivered_if paths_past old.paths new.paths) old.paths new.paths old.images new.images
-  -- what agrees with all that was read of the images agreed before
+  -- contents that agree with every read of the images by now agreed with the reads before, too
   pub images : (held : Contents) → IsSeen new.images held → IsSeen old.images held

@@ -1,4 +1,4 @@
--- The words that contracts cite, here and in crates above, from one place.
+-- Names that contracts cite, here and in crates above, re-exported from one place.
 pub use Rattle.dm_map.specs.Prelude.{AreLevelsEnough, BlockUnit}
 pub use Rattle.dm_replay.specs.Prelude.{replay_from}
 pub use Rattle.dm_store.specs.Prelude.{AgreesWith}

@@ -1,4 +1,4 @@
--- What is printed of devices, of a name and of a word.
+-- What is printed of devices, of a name and of the word of a message.
 use Rattle.dmremap.specs.Base.{ℕ, List, [], Some, Result, Ok, Err, DeviceSpec, concise_text, table_text, code, Description, IsReport, NameFault, Builds, IsSpaced, NameParts, Refusal, TableForm, Concise, Table}
 use Rattle.dm_stream.specs.declared.runs.ending.Ending.TheVariants as endings
 use Rattle.dmremap.specs.Answers.{Answer, Tells, Writes, end_of}
@@ -6,41 +6,41 @@ use Rattle.dmremap.specs.declared.exit.Exit.TheVariants as exits
 use Rattle.dmremap.specs.declared.exit.Refusal.TheVariants as refusals
 use Rattle.std.specs.Prelude.{◌≡◌, ◌∷◌, ◌++◌}
 
--- ---- what there is to print
+-- ---- texts to print
 
--- a text to print, or why there is none
+-- a text to print, or why the command is refused
 pub data Said : Type 0 where
   Prints : List ℕ → Said
   Refuses : Refusal → Said
 
--- what is said as an answer: a text is written, and a refusal told
+-- the answer that writes the text, or that reports the refusal
 abbrev pub answer_said : Said → Answer
 answer_said (Prints text) = Writes text (Some (end_of (exits.Ended endings.Done)))
 answer_said (Refuses refusal) = Tells (end_of (exits.Refused refusal))
 
--- what says something makes this the answer
+-- an answer that writes or reports something that `Says` allows
 abbrev pub SaidBy : (Says : Said → Type 0) → Answer → Type 0
 SaidBy Says answer = (said : Said) × Says said × (answer_said said ≡ answer)
 
--- a line of its own
+-- the text with a newline at its end
 abbrev pub line : List ℕ → List ℕ
 line text = text ++ code "\n" ∷ []
 
--- the one text of some devices in a form
+-- the text of devices in a table form
 abbrev pub written_as : TableForm → List DeviceSpec → List ℕ
 written_as Table devices = table_text devices
 written_as Concise devices = concise_text devices
 
--- the report of a stack
+-- `said` prints the report of the stack
 abbrev pub ReportSays : Description → Said → Type 0
 ReportSays stack said = (text : List ℕ) × IsReport stack text × (Prints text ≡ said)
 
--- a name, or why it is not built
+-- what `name` prints: the name that was built, or why it can't be built
 abbrev pub name_said : Result (List ℕ) NameFault → Said
 name_said (Ok name) = Prints (line name)
 name_said (Err fault) = Refuses (refusals.Name fault)
 
--- the parts of a name with single spaces between them, or that no parts build it
+-- what `splitname` prints: the parts of a name with single spaces between them, or a refusal if no parts build it
 abbrev pub SplitSays : List ℕ → Said → Type 0
 SplitSays name (Prints text) = (parts : List ℕ) × IsSpaced name parts × (line parts ≡ text)
 SplitSays name (Refuses refusal) = ((p : NameParts) → Builds p name → ⊥) × (refusals.Split ≡ refusal)

@@ -1,4 +1,4 @@
--- What `read` has to answer, by what was delivered and what images hold: the bytes of sectors of a device.
+-- What `read` answers: the bytes of a device's sectors, given what was delivered and what images hold.
 use Rattle.dmremap.specs.Base.{ℕ, List, length, Option, Some, None, Result, Ok, Err, nat_le, position, unwrap_or, option_map_or, LoadFault, Memory, Read, Paths, Delivery, fault_at, part_read, Description, device_len, is_same, Contents, DiskContents, disk_contents, Place, stored_state, Reading, bytes_of, device_bytes, Exit, Refusal}
 use Rattle.dm_stack.specs.declared.checks.limits.TheConstants.{MOST_LENGTH}
 use Rattle.dm_stream.specs.declared.runs.ending.Ending.TheVariants as endings
@@ -12,73 +12,73 @@ use Rattle.dmremap.specs.StoredStart.{images_in, start_at}
 use Rattle.dmremap.specs.Whole.{Begins, Refuses, Start, Unsettled}
 use Rattle.std.specs.Prelude.{◌≡◌, ◌≢◌, ◌+◌, ◌-◌, ◌<◌, ◌≤◌, if◌then◌else◌}
 
--- ---- the sectors that are asked for
+-- ---- the range of sectors to read
 
--- so many sectors from one on, unless they go past the end of a device that has len
+-- `count`, if that many sectors from `from` on lie in a device of `len` sectors
 abbrev pub within : (from count len : ℕ) → Option ℕ
 within from count len = if nat_le (from + count) len then Some count else None
 
--- how many are asked for: all that are left, if it isn't said
+-- how many sectors to read: the count that is given, or all up to the device's end; None if these sectors go past it
 abbrev pub count_in : (from : ℕ) → (count : Option ℕ) → (len : ℕ) → Option ℕ
 count_in from count len = within from (unwrap_or count (len - from)) len
 
--- the extent of a device, unless it goes past the end
+-- the extent with this count, or a refusal where no count fits the device
 abbrev pub extent_at : (device from : ℕ) → (count : Option ℕ) → Result Extent Refusal
 extent_at device from (Some count) = Ok (record { device = device; start = from; len = count })
 extent_at device from None = Err refusals.PastEnd
 
--- the extent of a stack that a range is, or why it is none
+-- the extent of a stack that a range asks for, or a refusal: an unknown device, or sectors past its end
 abbrev pub extent_of : Description → RangeWords → Result Extent Refusal
 extent_of stack range =
     option_map_or (λ device. extent_at device range.from (count_in range.from range.count (device_len stack device))) (position (λ device. is_same device.name range.device) stack.devices) (Err refusals.Device)
 
--- it lies in a device of the stack
+-- the extent lies in a device of the stack
 pub record IsExtentOf (stack : Description) (extent : Extent) : Type 0 where
   pub device : extent.device < length stack.devices
   pub inside : extent.start + extent.len ≤ device_len stack extent.device
   pub small : extent.start + extent.len ≤ MOST_LENGTH
 
--- ---- an extent
+-- ---- reading an extent
 
--- the exit of a command that wrote sectors up to the first that has no bytes, if there is one
+-- the exit of a command that wrote sectors, all of them or up to one that has no bytes
 abbrev pub stop_exit : Option Stop → Exit
 stop_exit None = exits.Ended endings.Done
 stop_exit (Some stop) = exits.Stopped stop
 
--- the exit of a command that wrote sectors to an output that may have failed
+-- the exit of a command that wrote sectors, or whose write failed
 abbrev pub written_exit : {F : Type 0} → Result (Option Stop) F → Exit
 written_exit (Ok stop) = stop_exit stop
 written_exit (Err fault) = exits.Ended endings.WriteFault
 
--- bytes that are read are the answer, and how it ends after them
+-- the answer that writes the bytes read, and ends as reading them ended
 abbrev pub reading_answer : Reading → Answer
 reading_answer reading = Writes reading.bytes (Some (end_of (stop_exit reading.stop)))
 
--- the answer of an extent of a stack that starts so, and whose disks hold this
+-- the answer of reading an extent of a stack that starts like this; None if its start isn't settled
 abbrev pub answer_from : Start → Description → DiskContents → Extent → Option Answer
 answer_from (Begins state) stack disks extent = Some (reading_answer (bytes_of (device_bytes stack state disks extent.device) extent.start extent.len))
 answer_from (Refuses message) stack disks extent = Some (Tells (refused_by message))
 answer_from Unsettled stack disks extent = None
 
--- ---- a stack
+-- ---- reading a range of a stack
 
--- a stack whose disks hold this starts in the state that its stores hold, if there is an extent to read
+-- the answer of reading an extent of a stack in the state that its exception stores hold, or the refusal of the extent
 abbrev pub extent_answer : Description → DiskContents → Result Extent Refusal → Option Answer
 extent_answer stack disks (Ok extent) = answer_from (start_at stack (stored_state stack disks)) stack disks extent
 extent_answer stack disks (Err refusal) = Some (Tells (end_of (exits.Refused refusal)))
 
--- the answer of a range of a stack whose disks lie in these places, if these are settled
+-- the answer of reading a range, given where the stack's disks lie; None while that isn't settled
 abbrev pub range_answer : Contents → Description → RangeWords → Option (Result (List (Option Place)) LoadFault) → Option Answer
 range_answer held stack range (Some (Ok places)) = extent_answer stack (disk_contents places held) (extent_of stack range)
 range_answer held stack range (Some (Err fault)) = Some (Tells (end_of (exits.Refused (refusals.Load fault))))
 range_answer held stack range None = None
 
--- where the disks of a stack lie, by what PATHS delivered, if that is settled: without it nobody knows
+-- where the disks of a stack lie, according to PATHS, or the fault of PATHS; a missing PATHS is a fault
 abbrev pub places_in : (paths : Option Delivery) → Description → Option (Result (List (Option Place)) LoadFault)
 places_in (Some paths) stack = images_in stack (part_read Paths paths)
 places_in None stack = Some (Err (fault_at Paths Read 0))
 
--- these are the places, or why there are none; out of memory says nothing of that
+-- the result is the settled places or the settled fault; running out of memory is always allowed
 abbrev pub AreSettled : Option (Result (List (Option Place)) LoadFault) → Result (List (Option Place)) LoadFault → Type 0
 AreSettled at (Ok places) = at ≡ Some (Ok places)
 AreSettled at (Err fault) = fault.kind ≢ Memory → at ≡ Some (Err fault)

@@ -1,11 +1,11 @@
--- What a replay of the requests that were delivered writes, and how it exits.
+-- What a replay writes for the delivered requests, and how it exits.
 use Rattle.dmremap.specs.Base.{ℕ, List, [], None, Some, map, since, IsCutShort, Description, device_id, State, Ending, NumberedRequest, Requests, Asked, asked_answers, world_after, HasTop, AreMaximal, flat, runs_text, Exit}
 use Rattle.dm_stream.specs.declared.runs.ending.Ending.TheVariants as endings
 use Rattle.dm_replay.specs.declared.value_run.ValueRun.{ValueRun}
 use Rattle.dmremap.specs.declared.exit.Exit.TheVariants as exits
 use Rattle.std.specs.Prelude.{◌≡◌, ◌∷◌, ◌++◌}
 
--- a request of a stack that was played whole
+-- a request to a stack, as one that was played to its end and not halted
 abbrev pub asked_of : Description → NumberedRequest → Asked
 asked_of stack request = record {
   number = request.number;
@@ -16,7 +16,7 @@ asked_of stack request = record {
   halted_after = None;
 }
 
--- what is written for a request after those that were asked: a line for each maximal run of what its sectors answer
+-- the text for a request that follows those in `asked`: a line for each maximal run of the values that its sectors answer
 pub record IsAnswer (stack : Description) (start : State) (asked : List Asked) (request : NumberedRequest) (text : List ℕ) : Type 0 where
   pub top : HasTop stack request.values.device
   pub runs : List ValueRun
@@ -24,14 +24,14 @@ pub record IsAnswer (stack : Description) (start : State) (asked : List Asked) (
   pub answers : flat runs ≡ asked_answers stack (world_after stack start asked) (asked_of stack request)
   pub is : runs_text stack request.number runs ≡ text
 
--- what is written for requests in a row, each after those before it
+-- the text for a list of requests, each played after those before it
 abbrev pub AreAnswered : Description → (start : State) → List Asked → List NumberedRequest → List ℕ → Type 0
 AreAnswered stack start asked [] text = [] ≡ text
 AreAnswered stack start asked (request ∷ requests) text =
     (first : List ℕ) × (rest : List ℕ) × IsAnswer stack start asked request first
     × AreAnswered stack start (asked ++ asked_of stack request ∷ []) requests rest × (first ++ rest ≡ text)
 
--- the requests up to one that is not answered, and what is written for them
+-- the requests before the first one that is not answered, because of `IsCause`, and the text for them
 pub record StopsAt (IsCause : NumberedRequest → Type 0) (stack : Description) (start : State) (asked : List Asked) (requests : List NumberedRequest) (text : List ℕ) : Type 0 where
   pub first : List NumberedRequest
   pub last : NumberedRequest
@@ -40,16 +40,16 @@ pub record StopsAt (IsCause : NumberedRequest → Type 0) (stack : Description) 
   pub told : AreAnswered stack start asked first text
   pub cause : IsCause last
 
--- the request of this number is of no top device
+-- the request has this number, and its device is not a top device
 pub record IsOfNone (stack : Description) (number : ℕ) (request : NumberedRequest) : Type 0 where
   pub of_number : request.number ≡ number
   pub none : HasTop stack request.values.device → ⊥
 
--- the request is of a top device
+-- the request's device is a top device
 abbrev pub IsOfTop : Description → NumberedRequest → Type 0
 IsOfTop stack request = HasTop stack request.values.device
 
--- a write failed, so that something of what is written for the first requests is left
+-- a write failed: `text` is a proper prefix of the text for some first requests
 pub record IsCutReplay (stack : Description) (start : State) (asked : List Asked) (requests : List NumberedRequest) (text : List ℕ) : Type 0 where
   pub first : List NumberedRequest
   pub later : List NumberedRequest
@@ -60,26 +60,26 @@ pub record IsCutReplay (stack : Description) (start : State) (asked : List Asked
 
 -- ---- a player of requests
 
--- it accepted these requests, and what is written for them was written
+-- the player accepted these requests, and their text was written
 pub record HasPlayed (stack : Description) (start : State) (old new : List Asked) (requests : List NumberedRequest) (before after : List ℕ) : Type 0 where
   pub asked : new ≡ old ++ map (asked_of stack) requests
   pub told : AreAnswered stack start old requests (since before after)
 
--- it stopped at one of these requests, and what is written for those before was written; or a write failed
+-- the player stopped at one of these requests and wrote the text for those before it, or a write failed
 abbrev pub HasStopped : Description → (start : State) → Exit → List Asked → List NumberedRequest → List ℕ → Type 0
 HasStopped stack start (exits.NotTop number) asked requests text = StopsAt (IsOfNone stack number) stack start asked requests text
 HasStopped stack start exits.Memory asked requests text = StopsAt (IsOfTop stack) stack start asked requests text
 HasStopped stack start (exits.Ended endings.WriteFault) asked requests text = IsCutReplay stack start asked requests text
 HasStopped stack start exit asked requests text = ⊥
 
--- ---- all requests
+-- ---- a whole replay
 
--- where all requests were answered, up to their own end, this was written
+-- all requests up to their end were answered with this text, and they ended as `e`
 pub record IsWhole (stack : Description) (start : State) (requests : Requests) (text : List ℕ) (e : Ending) : Type 0 where
   pub ends_so : requests.ending ≡ Some e
   pub told : AreAnswered stack start [] requests.all text
 
--- what was written before the output is closed
+-- what a replay wrote before its output is closed, depending on its exit
 abbrev pub IsPlayed : Description → (start : State) → Requests → List ℕ → Exit → Type 0
 IsPlayed stack start requests text (exits.Ended endings.Done) = IsWhole stack start requests text endings.Done
 IsPlayed stack start requests text (exits.Ended (endings.BadRequest number word)) = IsWhole stack start requests text (endings.BadRequest number word)

@@ -1,4 +1,4 @@
--- From which state a run begins whose stores are read: what PATHS delivered says where disks lie, and what is held there which state that is.
+-- The state that a run starts in where exception stores are read: PATHS says where the disks lie, and the images say what the stores hold.
 use Rattle.dmremap.specs.Base.{List, Option, None, Some, Result, Ok, Err, LoadFault, Paths, DiskPath, Delivery, load_message, PartRead, TextOf, Refuses, Unread, part_read, read_paths, Description, name_at, State, refused_ending, Place, Contents, disk_contents, images_of, store_message, stored_state, Refusal}
 use Rattle.dm_stream.specs.declared.runs.ending.Ending.TheVariants as endings
 use Rattle.dm_store.specs.declared.fault.StoreRefusal.{StoreRefusal}
@@ -12,52 +12,52 @@ use Rattle.dmremap.specs.Whole as start
 use Rattle.dmremap.specs.Whole.{Start}
 use Rattle.std.specs.Prelude.{◌≡◌, ◌≢◌, ◌⊎◌}
 
--- ---- PATHS
+-- ---- the list of paths
 
--- the images of the disks of a stack by what a text gives, or its fault
+-- where the disks of a stack lie in images, according to a list of paths, or the fault of the list
 abbrev pub images_by : Description → Result (List DiskPath) LoadFault → Result (List (Option Place)) LoadFault
 images_by stack (Ok paths) = images_of stack paths
 images_by stack (Err fault) = Err fault
 
--- the images of the disks of a stack by what reading PATHS gave, if that is settled
+-- where the disks of a stack lie in images, according to PATHS; None while that isn't settled
 abbrev pub images_in : Description → PartRead → Option (Result (List (Option Place)) LoadFault)
 images_in stack (TextOf text) = Some (images_by stack (read_paths text))
 images_in stack (Refuses fault) = Some (Err fault)
 images_in stack Unread = None
 
--- ---- the stores
+-- ---- exception stores
 
--- the state that they hold, or the message of the first that is refused
+-- how a stack starts: in the state that its exception stores hold, or refused with the message about the first bad store
 abbrev pub start_at : Description → Result State StoreRefusal → Start
 start_at stack (Ok state) = start.Begins state
 start_at stack (Err refusal) = start.Refuses (store_message (name_at stack refusal.snapshot) refusal.fault)
 
--- by where disks lie, and what is held there
+-- how a stack starts, given where its disks lie and what the images hold
 abbrev pub start_over : Contents → Description → Option (Result (List (Option Place)) LoadFault) → Start
 start_over held stack (Some (Ok images)) = start_at stack (stored_state stack (disk_contents images held))
 start_over held stack (Some (Err fault)) = start.Refuses (load_message fault)
 start_over held stack None = start.Unsettled
 
--- by what PATHS delivered: without it nobody looks into stores
+-- how a stack starts, given what PATHS delivered; without PATHS no exception store is read
 abbrev pub stored_start : (paths : Option Delivery) → Contents → Description → Start
 stored_start (Some paths) held stack = start_over held stack (images_in stack (part_read Paths paths))
 stored_start None held stack = start.fresh_start stack
 
--- ---- what is asked for when
+-- ---- the order of reads
 
--- images are not asked for unless PATHS says where the disks of the stack lie
+-- images are read only if PATHS says where the disks of the stack lie
 abbrev pub AreImagesAsked : {X : Type 0} → Description → (paths : Option Delivery) → (old new : X) → Type 0
 AreImagesAsked stack (Some paths) old new = (new ≡ old) ⊎ ((images : List (Option Place)) × images_in stack (part_read Paths paths) ≡ Some (Ok images))
 AreImagesAsked stack None old new = new ≡ old
 
--- PATHS and images are asked for in turn, each only after what comes before it was accepted: first a load has to give a stack
+-- PATHS and images are read in turn: PATHS only after a load gave a stack, images only after PATHS was accepted
 pub record ReadInTurn {X Y : Type 0} (Opens : Opening → Type 0) (paths : Option Delivery) (paths_old paths_new : X) (images_old images_new : Y) : Type 0 where
   pub paths_asked : (paths_new ≡ paths_old) ⊎ ((stack : Description) × Opens (Loaded (SoundAs stack)))
   pub images_asked : (images_new ≡ images_old) ⊎ ((stack : Description) × Opens (Loaded (SoundAs stack)) × AreImagesAsked stack paths images_old images_new)
 
 -- ---- how a run begins
 
--- it begins from the state that earlier requests left, or is refused, as they and this start have it; out of memory says nothing of that
+-- how a run begins: in the state that earlier requests left, or refused by a bad start or a fault in those requests; running out of memory is always allowed
 abbrev pub IsBegunAt : Description → (before : Option Delivery) → Start → Result Prepared Refusal → Type 0
 IsBegunAt stack before at (Ok prepared) =
     (state : State) × (at ≡ start.Begins state) × ((start.earlier_from state stack before).ending ≡ Some endings.Done) × (prepared.mapper.state ≡ (start.earlier_from state stack before).state)

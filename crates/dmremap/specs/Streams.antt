@@ -1,11 +1,11 @@
--- What became of the streams of a command until it exited.
+-- What a command did with its streams until it exited.
 use Rattle.dmremap.specs.Base.{ℕ, true, false, List, InputPast, OutputPast, memory_message, HasWritten, IsFinished, IsFlushed, IsReadOn, MetNothing, WriteFault, HasMet, HasTold, IsTold, write_message, Exit}
 use Rattle.dmremap.specs.declared.exit.Exit.TheVariants as exits
 use Rattle.dmremap.specs.declared.status.TheConstants.{STATUS_BAD_REQUEST, STATUS_DONE, STATUS_MEMORY, STATUS_READ_FAULT, STATUS_REFUSED, STATUS_WRITE_FAULT}
 use Rattle.dmremap.specs.Exit.{exit_message, exit_status, failed_writes, is_flushed, is_refused}
 use Rattle.std.specs.Prelude.{◌≡◌, ◌≢◌, ◌⊎◌, ◌+◌, ◌<◌, ◌≤◌}
 
--- how a stream moved on: its past before a command, and after it
+-- the past of a stream before a command, and after it
 pub record Moved (Past : Type 0) : Type 0 where
   pub old : Past
   pub new : Past
@@ -13,80 +13,80 @@ pub record Moved (Past : Type 0) : Type 0 where
 abbrev pub moved : {X Past : Type 0} → (past : X → Past) → (old new : X) → Moved Past
 moved past old new = record { old = past old; new = past new }
 
--- nothing was asked of it
+-- nothing was asked of the stream
 abbrev pub IsUnmoved : {Past : Type 0} → Moved Past → Type 0
 IsUnmoved stream = stream.new ≡ stream.old
 
--- ---- by the status
+-- ---- what the exit status implies for streams
 
--- how the requests were read
+-- what the command's exit status implies about how requests were read
 pub record RequestsRead (status : ℕ) (old new : InputPast) : Type 0 where
-  -- they are only read on, and nothing is asked of them after an end or a fault
+  -- requests are not read after their end or after a fault
   pub read_on : IsReadOn old new
-  -- reading them failed; and where it did, and the output did not, only a request that was not answered takes precedence over that
+  -- a read of the requests failed if the status says so, and none failed if the command is done
   pub read_fault : status ≡ STATUS_READ_FAULT → old.faults < new.faults
   pub no_fault : status ≡ STATUS_DONE → new.faults ≤ old.faults
-  -- nothing is asked of them after a request that was bad: any read may fail, and none did
+  -- no read failed if the command stopped at a bad request
   pub bad_line : status ≡ STATUS_BAD_REQUEST → new.faults ≤ old.faults
-  -- they are not asked for where the command was refused before the first of them
+  -- a refused command reads no requests
   pub unasked : status ≡ STATUS_REFUSED → new ≡ old
 
--- what was written, and flushed
+-- what the command's exit status implies about what was written and flushed
 pub record OutputWritten (status : ℕ) (old new : OutputPast) : Type 0 where
-  -- it only took more, and it failed where the status says so: that takes precedence over all else
+  -- the output only grew; it failed exactly if the status is STATUS_WRITE_FAULT, which takes precedence over all others
   pub finished : IsFinished old new (status ≡ STATUS_WRITE_FAULT)
-  -- it is flushed once, at the end; not at all where the command was refused
+  -- the output is flushed once, at the end; a refused command doesn't flush it
   pub flushed : status ≢ STATUS_REFUSED → status ≢ STATUS_WRITE_FAULT → status ≢ STATUS_MEMORY → IsFlushed old new
   pub refused : status ≡ STATUS_REFUSED → new.flushes ≡ old.flushes
 
--- what was told
+-- what the command's exit status implies about what was reported on standard error
 pub record MessagesTold (status : ℕ) (old new : OutputPast) : Type 0 where
-  -- some message: which one, other clauses say
+  -- some message; other clauses say which one
   pub message : List ℕ
   pub told : HasTold message old new
-  -- a failed output is told
+  -- a failed output is reported as such
   pub write_message : status ≡ STATUS_WRITE_FAULT → message ≡ write_message
 
--- how the streams of a command are left that exits with this status
+-- what the exit status of a command implies about its streams
 pub record StreamsLeft (status : ℕ) (requests : Moved InputPast) (output messages : Moved OutputPast) : Type 0 where
   pub read : RequestsRead status requests.old requests.new
   pub written : OutputWritten status output.old output.new
   pub told : MessagesTold status messages.old messages.new
 
--- memory ran out before anything was asked of the output or of the requests, and that was told
+-- memory ran out before anything was asked of the output or of the requests, and that was reported
 abbrev pub IsOut : (requests : Moved InputPast) → (output messages : Moved OutputPast) → Type 0
 IsOut requests output messages = IsUnmoved output × IsUnmoved requests × IsTold memory_message messages.old messages.new
 
--- ---- by the exit
+-- ---- what the exit implies for streams
 
--- the command exits so: this is its status, and its message was told
+-- the command exits with the status and the message of `exit`
 pub record Exits (exit : Exit) (result : ℕ) (old new : OutputPast) : Type 0 where
   pub is : result ≡ exit_status exit
   pub told : HasTold (exit_message exit) old new
 
--- what the input of requests met until then
+-- what reading the requests met before this exit
 abbrev pub HasMetBy : Exit → (old new : InputPast) → Type 0
 HasMetBy (exits.Ended ending) old new = HasMet ending old new
 HasMetBy (exits.NotTop number) old new = MetNothing old new
 HasMetBy _ old new = Unit {0}
 
--- how requests were asked for until then: only read on, and not at all where the command was refused
+-- how requests were read before this exit: not after their end or a fault, and not at all if the command was refused
 pub record AskedBy (old new : InputPast) (exit : Exit) : Type 0 where
   pub read_on : IsReadOn old new
   pub met : HasMetBy exit old new
   pub unasked : is_refused exit ≡ true → new ≡ old
 
--- a command that would exit as before exits as after, since it does, or since the flush failed
+-- closing the output keeps an exit (`after` is `before`), or turns it into a write fault because the flush failed
 abbrev pub EndsAs : (before : Exit) → (flushes_old flushes_new : ℕ) → (after : Exit) → Type 0
 EndsAs before old new after =
     ((after ≡ before) × (is_flushed before ≡ false → new ≡ old))
     ⊎ ((after ≡ exits.Ended WriteFault) × (is_flushed before ≡ true) × (new ≡ old + 1))
 
--- the output of a command that would exit as before was closed, so that it exits as after
+-- closing the output wrote nothing, and turned the exit `before` into the exit `after`
 pub record IsClosedAs (before : Exit) (old new : OutputPast) (after : Exit) : Type 0 where
   pub bytes : new.written ≡ old.written
   pub ends : EndsAs before old.flushes new.flushes after
   pub untouched : is_refused before ≡ true → new ≡ old
-  -- wherever the command began
+  -- all that was written and flushed since the command began, whatever was written before it
   pub output : (start : OutputPast) → HasWritten start old (failed_writes before) → OutputWritten (exit_status after) start new
   pub flushed : is_flushed after ≡ true → (start : OutputPast) → HasWritten start old (failed_writes before) → IsFlushed start new

@@ -1,4 +1,4 @@
--- The command line of the program, and the job or the refusal that words have by it.
+-- The program's command line, and the job or the fault that its words stand for.
 use Rattle.dmremap.specs.Base.{[], ℕ, Bool, true, false, List, Option, None, Some, Result, IfOk, ⊤, codes, drop, map, not, option_and_then, option_map, unwrap_or, Bor, before_first, list_any, option_map_or, bytes_eq, digits_value, Format, Lvm, Tables, Job, Concise, Table}
 use Rattle.std.specs.Prelude.{◌≡◌, ◌≢◌, ◌∷◌, ◌&&◌, ◌||◌, if◌then◌else◌}
 use Rattle.std.specs.Str.Parse.{without_leading_plus}
@@ -22,21 +22,21 @@ use Rattle.dmremap.specs.declared.words.WordsFault.TheVariants.{Words, Disks, Me
 
 -- ---- the command line
 
--- the words that FORMAT may be
+-- the words that FORMAT can be
 abbrev pub formats : List Text
 formats = codes "lvm" ∷ codes "concise" ∷ codes "table" ∷ codes "images" ∷ []
 
--- the format that a word of these names, other than that of images
+-- the format that a word names, unless the word is `images`
 abbrev pub format_named : Text → Format
 format_named word = if bytes_eq word (codes "lvm") then Lvm else (if bytes_eq word (codes "concise") then Tables Concise else Tables Table)
 
--- clap takes these words and no other for a value
+-- clap accepts exactly these words as a value
 pub record TakesNames (taken : List Text) (parser : ValueParser) : Type 0 where
   pub names : Bor (List (Bor Text))
   pub is_names : parser ≡ Names names
   pub are_taken : map (λ name. name.now) names.now ≡ taken
 
--- the parsers of FORMAT: of commands that take each, and of the one that takes images alone
+-- the parsers of FORMAT: one for commands that accept every format, and one for `metadata`, which accepts only `images`
 pub record Parsers : Type 0 where
   pub any : ValueParser
   pub images : ValueParser
@@ -45,19 +45,19 @@ pub record TakeFormats (parsers : Parsers) : Type 0 where
   pub any : TakesNames formats parsers.any
   pub images : TakesNames (codes "images" ∷ []) parsers.images
 
--- an argument that has to be there, with one name in the help
+-- a required argument, with one value name in the help
 abbrev pub required_rule : Text → Rule
 required_rule id = record (new_rule id) { value_names = 1; required = true }
 
--- FORMAT, which has to be one of the words that the parser takes
+-- FORMAT: a required argument that must be one of the parser's words
 abbrev pub format_rule : ValueParser → Rule
 format_rule parser = record (required_rule (codes "format")) { parser = Some parser }
 
--- an argument that may be left out, with one name in the help
+-- an optional argument, with one value name in the help
 abbrev pub optional_rule : Text → Rule
 optional_rule id = record (new_rule id) { value_names = 1 }
 
--- a flag, `--NAME`, which may stand once
+-- a flag, `--NAME`, given at most once
 abbrev pub flag_rule : Text → ArgAction → Rule
 flag_rule id action = record (new_rule id) { long = Some id; action = Some action }
 
@@ -65,19 +65,19 @@ flag_rule id action = record (new_rule id) { long = Some id; action = Some actio
 abbrev pub status_rule : Rule
 status_rule = flag_rule (codes "status") SetTrue
 
--- the option that names a file of earlier requests, `--before REQUESTS`, which may stand once
+-- the option for a file of earlier requests, `--before REQUESTS`, given at most once
 abbrev pub before_rule : Rule
 before_rule = record (optional_rule (codes "before")) { long = Some (codes "before") }
 
--- the option that names a list of paths, `--paths PATHS`, which may stand once
+-- the option for a list of paths, `--paths PATHS`, given at most once
 abbrev pub paths_rule : Rule
 paths_rule = record (optional_rule (codes "paths")) { long = Some (codes "paths") }
 
--- what clap takes for a number of sectors: all that `u64` reads
+-- the parser of a number of sectors: any u64
 abbrev pub sectors_parser : ValueParser
 sectors_parser = Unsigned 0 18446744073709551615
 
--- an option that has a number of sectors, `--NAME SECTORS`, which may stand once
+-- an option for a number of sectors, `--NAME SECTORS`, given at most once
 abbrev pub sectors_rule : Text → Rule
 sectors_rule id = record (optional_rule id) { long = Some id; parser = Some sectors_parser }
 
@@ -89,7 +89,7 @@ version_rule = flag_rule (codes "version") Version
 abbrev pub three_app : Text → (first second third : Rule) → App
 three_app name first second third = with_rule (with_rule (with_rule (new_app name) first) second) third
 
--- a command that loads files, `NAME FORMAT FILE [DISKS]`: clap lets DISKS be left out, since the formats differ in it
+-- a command that loads files, `NAME FORMAT FILE [DISKS]`: DISKS is optional for clap because `lvm` and `images` don't have it
 abbrev pub loading_app : Text → ValueParser → App
 loading_app name parser = three_app name (format_rule parser) (required_rule (codes "file")) (optional_rule (codes "disks"))
 
@@ -101,7 +101,7 @@ map_app parser = with_rule (with_rule (with_rule (loading_app (codes "map") pars
 abbrev pub replay_app : ValueParser → App
 replay_app parser = with_rule (loading_app (codes "replay") parser) paths_rule
 
--- `read FORMAT FILE [DISKS] DEVICE [--from SECTOR] [--count SECTORS] [--paths PATHS]`: clap lets the last word be left out, since the formats differ in DISKS
+-- `read FORMAT FILE [DISKS] DEVICE [--from SECTOR] [--count SECTORS] [--paths PATHS]`: the last word is optional for clap because not every format has DISKS
 abbrev pub read_app : ValueParser → App
 read_app parser =
     with_rule (with_rule (with_rule (with_rule (loading_app (codes "read") parser) (optional_rule (codes "device"))) (sectors_rule (codes "from"))) (sectors_rule (codes "count"))) paths_rule
@@ -118,7 +118,7 @@ name_app = three_app (codes "name") (required_rule (codes "vg")) (required_rule 
 abbrev pub split_app : App
 split_app = with_rule (new_app (codes "splitname")) (required_rule (codes "name"))
 
--- the program by itself, which asks for a command and without a word shows its help; its version has no short flag
+-- the program without its commands: it needs a command, prints its help if it gets no word, and has no short flag for its version
 abbrev pub bare_app : App
 bare_app = on_top (λ s. record s {
   subcommand_required = true;
@@ -127,55 +127,55 @@ bare_app = on_top (λ s. record s {
   disable_version_flag = true;
 }) (new_app (codes "dmremap"))
 
--- the program with these commands
+-- the program with these commands added
 abbrev pub with_commands : App → List App → App
 with_commands line [] = line
 with_commands line (command ∷ commands) = with_commands (with_subcommand line command.top) commands
 
--- the program with its commands, before which only the flag for the version may stand
+-- the program with all of its commands; only the flag for the version may come before them
 abbrev pub command_line : Parsers → App
 command_line parsers = with_commands (with_rule bare_app version_rule)
     (map_app parsers.any ∷ loading_app (codes "table") parsers.any ∷ loading_app (codes "concise") parsers.any
     ∷ loading_app (codes "check") parsers.any ∷ replay_app parsers.any ∷ read_app parsers.any ∷ metadata_app parsers.images ∷ name_app ∷ split_app ∷ [])
 
--- a parse reads the command as this one, if there was memory to make it
+-- the command that was made is the one of `app`, unless there was no memory to make it
 abbrev pub HasApp : {E : Type 0} → App → Result Command E → Type 0
 HasApp app result = IfOk result (λ command. app_of command ≡ app)
 
--- ---- what words say
+-- ---- from clap's matches to a job
 
--- a flag that was given has this text, and one that was not has another
+-- whether the flag was given: its text is `true` if it was
 abbrev pub has_flag : Text → List Row → Bool
 has_flag id rows = option_map_or (λ text. bytes_eq text (codes "true")) (first_of id rows) false
 
--- a word that clap asks for, which takes no words without it
+-- the text of a required word, which clap never leaves out
 abbrev pub word_of : Text → List Row → Text
 word_of id rows = unwrap_or (first_of id rows) []
 
--- the files of FORMAT FILE [DISKS]: `lvm` has no list of disks, and the others have one
+-- the source of FORMAT FILE [DISKS]: DISKS is an error with `lvm`, and required with the other formats
 abbrev pub files_at : Format → Text → Option Text → Option SourceWords
 files_at Lvm file None = Some (file_words Lvm file None)
 files_at Lvm file (Some disks) = None
 files_at (Tables form) file None = None
 files_at (Tables form) file (Some disks) = Some (file_words (Tables form) file (Some disks))
 
--- the list of images, which is FILE: they have no list of disks, and no other list of paths
+-- the source of `images`, whose list is FILE: neither DISKS nor `--paths` may be given
 abbrev pub images_at : Text → (disks paths : Option Text) → Option SourceWords
 images_at list None None = Some (image_words list)
 images_at list None (Some paths) = None
 images_at list (Some disks) paths = None
 
--- the source of a word for FORMAT, with this word for DISKS
+-- the source that FORMAT stands for, with this word for DISKS; None if a word is missing or too many
 abbrev pub source_by : (format : Text) → List Row → (disks : Option Text) → Option SourceWords
 source_by format rows disks =
     if bytes_eq format (codes "images") then images_at (word_of (codes "file") rows) disks (first_of (codes "paths") rows)
     else files_at (format_named format) (word_of (codes "file") rows) disks
 
--- the source that the words of a command say
+-- the source that the words of a command name
 abbrev pub source_in : List Row → (disks : Option Text) → Option SourceWords
 source_in rows disks = source_by (word_of (codes "format") rows) rows disks
 
--- the job of a command that loads this source; `replay` is the last of them
+-- the job of a command that loads this source; a command that isn't named here is `replay`
 abbrev pub loading_job : Text → List Row → SourceWords → JobWords
 loading_job command rows from =
     if bytes_eq command (codes "map") then map_words from (first_of (codes "paths") rows) (first_of (codes "before") rows) (has_flag (codes "status") rows)
@@ -183,36 +183,36 @@ loading_job command rows from =
     else (if bytes_eq command (codes "concise") then print_words Concise from
     else (if bytes_eq command (codes "check") then check_words from else replay_words from (first_of (codes "paths") rows))))
 
--- the job of a command that loads something, unless DISKS is missing or too much, or another list beside images
+-- the job of a command that loads a source; None if DISKS or `--paths` doesn't fit FORMAT
 abbrev pub source_job : Text → List Row → Option JobWords
 source_job command rows = option_map (loading_job command rows) (source_in rows (first_of (codes "disks") rows))
 
--- the number that a text spells; clap takes no text that spells none
+-- the number that a text spells; clap accepts no other text
 abbrev pub number_of : Text → Option ℕ
 number_of text = if accepts false sectors_parser text then Some (digits_value 10 (without_leading_plus text)) else None
 
 abbrev pub number_at : Text → List Row → Option ℕ
 number_at id rows = option_and_then number_of (first_of id rows)
 
--- the sectors of a device, from the first on and up to the last where the words don't say which
+-- the range that `read` is asked for: by default from sector 0, and to the device's end
 abbrev pub range_at : List Row → (device : Text) → RangeWords
 range_at rows device = record { device = device; from = unwrap_or (number_at (codes "from") rows) 0; count = number_at (codes "count") rows }
 
--- DISKS and DEVICE, which is the last of two words
+-- DISKS and DEVICE, of two optional words: DEVICE is the last one given
 abbrev pub last_of : (second third : Option Text) → Option Text × Option Text
 last_of second (Some device) = (second, Some device)
 last_of second None = (None, second)
 
--- the job of `read` of a source: files need a list of paths
+-- the job of `read` from a source; files need `--paths`
 abbrev pub read_from : SourceWords → (paths : Option Text) → RangeWords → Option JobWords
 read_from (file_words format file disks) None range = None
 read_from from paths range = Some (read_words from paths range)
 
--- the job of `read` of these sectors, unless DISKS or a list of paths is missing or too much
+-- the job of `read` for this range; None if DISKS or `--paths` is missing or doesn't fit FORMAT
 abbrev pub range_job : List Row → (disks : Option Text) → RangeWords → Option JobWords
 range_job rows disks range = option_and_then (λ from. read_from from (first_of (codes "paths") rows) range) (source_in rows disks)
 
--- the job of `read`, unless a word is missing or too much
+-- the job of `read`; None if a word is missing or doesn't fit
 abbrev pub read_job : List Row → Option JobWords
 read_job rows =
     let last = last_of (first_of (codes "disks") rows) (first_of (codes "device") rows) in
@@ -222,7 +222,7 @@ read_job rows =
 abbrev pub name_job : List Row → JobWords
 name_job rows = name_words (record { vg = word_of (codes "vg") rows; lv = word_of (codes "lv") rows; layer = first_of (codes "layer") rows })
 
--- the job of a command with these words, unless DISKS is missing or too much, or another list beside images
+-- the job of a command with these words; None if DISKS or `--paths` is missing or doesn't fit
 abbrev pub job_in : Text → List Row → Option JobWords
 job_in command rows =
     if bytes_eq command (codes "name") then Some (name_job rows)
@@ -231,73 +231,73 @@ job_in command rows =
     else (if bytes_eq command (codes "read") then read_job rows
     else source_job command rows)))
 
--- the job of the command that clap met, which takes no words without one
+-- the job of the subcommand that clap found; clap accepts no words without one
 abbrev pub said_by : Option (Text × List Row) → Option JobWords
 said_by met = option_and_then (λ m. job_in m.0 m.1) met
 
--- ---- what words give
+-- ---- the job or the fault of words
 
--- a word of these is a hyphen alone, before the first `--`
+-- one of the words before the first `--` is a lone hyphen
 abbrev pub lone_hyphen_in : List Text → Bool
 lone_hyphen_in words = list_any (λ w. bytes_eq w (codes "-"))
     (before_first (λ w. bytes_eq w (codes "--")) words)
 
--- so is a word after the program's name
+-- one of the words after the program's name, before the first `--`, is a lone hyphen
 abbrev pub has_lone_hyphen : List Text → Bool
 has_lone_hyphen words = lone_hyphen_in (drop 1 words)
 
--- clap takes the words, and its matches say this
+-- clap accepts the words, and they ask for `said`; None if DISKS or `--paths` doesn't fit
 pub record IsTaken (words : List Text) (said : Option JobWords) : Type 0 where
   pub parsers : Parsers
   pub formats : TakeFormats parsers
   pub taken : fault_of (command_line parsers) words ≡ []
   pub says : said_by (subcommand_of (command_line parsers) words) ≡ said
 
--- the fault is an error of this kind, or memory ran out
+-- the fault is an error of kind `k`, or memory ran out
 abbrev pub IsOfKind : ErrorKind → WordsFault → Type 0
 IsOfKind k (Words error) = kind_of error ≡ k
 IsOfKind k Disks = ⊥
 IsOfKind k Memory = ⊤
 
--- clap refuses the words by this error, which is not that memory ran out
+-- clap refuses the words with this error, which is not that memory ran out
 pub record IsRefused (words : List Text) (error : Error) : Type 0 where
   pub parsers : Parsers
   pub formats : TakeFormats parsers
   pub among : IsAmong (kind_of error) (fault_of (command_line parsers) words)
   pub no_memory : kind_of error ≢ kind.OutOfMemory
 
--- clap refuses the words so, or memory ran out
+-- clap refuses the words with this fault, or memory ran out
 abbrev pub IsUntaken : List Text → WordsFault → Type 0
 IsUntaken words (Words error) = IsRefused words error
 IsUntaken words Disks = ⊥
 IsUntaken words Memory = ⊤
 
--- the words ask for this job of a command
+-- the words ask for this job of a command, and none is a lone hyphen
 pub record IsCommandOf (words : List Text) (job : Job) : Type 0 where
   pub hyphen : has_lone_hyphen words ≡ false
   pub taken : IsTaken words (Some (job_words job))
 
--- a lone hyphen is refused as an unknown argument, whatever else the words are, and other words as clap refuses them
+-- the error for refused words: an unknown argument if there is a lone hyphen, or else the error of clap
 abbrev pub IsErrorFor : (hyphen : Bool) → List Text → Error → Type 0
 IsErrorFor true words error = kind_of error ≡ kind.UnknownArgument
 IsErrorFor false words error = IsRefused words error
 
--- the words ask for no command by this fault: they are text, and memory can run out at any words. DISKS is missing or too much only where there is no other
+-- the words ask for no command, because of this fault. Memory can run out for any words; `Disks` is the fault only where clap accepts them
 abbrev pub IsRefusedFor : List Text → WordsFault → Type 0
 IsRefusedFor words (Words error) = IsErrorFor (has_lone_hyphen words) words error
 IsRefusedFor words Disks = (has_lone_hyphen words ≡ false) × IsTaken words None
 IsRefusedFor words Memory = ⊤
 
--- a word of messages that is a command, too
+-- a word of messages that is also the name of a command
 abbrev pub is_command : Text → Bool
 is_command word = bytes_eq word (codes "name") || bytes_eq word (codes "read")
 
--- the word of messages that `help` is asked about, if anything is said of it
+-- the word that `help WORD` is to explain, if it is no command and has an explanation
 abbrev pub asked_word : List Text → Option Text
 asked_word (program ∷ help ∷ asked ∷ []) = if bytes_eq help (codes "help") && not (is_command asked) && is_explained asked then Some asked else None
 asked_word _ = None
 
--- the job is to print what is said of a word that `help` is asked about, and else that of a command
+-- the job is to explain `asked` if there is one, or else that of a command
 abbrev pub IsJobBy : (asked : Option Text) → List Text → Job → Type 0
 IsJobBy (Some word) words job = job_words job ≡ explain_words word
 IsJobBy None words job = IsCommandOf words job
@@ -306,19 +306,19 @@ IsJobBy None words job = IsCommandOf words job
 abbrev pub IsJobOf : List Text → Job → Type 0
 IsJobOf words job = IsJobBy (asked_word words) words job
 
--- the words have this fault
+-- the words ask for nothing, because of this fault
 abbrev pub IsFaultOf : List Text → WordsFault → Type 0
 IsFaultOf words fault = (asked_word words ≡ None) × IsRefusedFor words fault
 
 -- ---- the exit status of a fault
 
--- the error is a text that was asked for
+-- the error is the help or the version that was asked for
 abbrev pub is_shown : ErrorKind → Bool
 is_shown kind.DisplayHelp = true
 is_shown kind.DisplayVersion = true
 is_shown _ = false
 
--- the exit status of a fault
+-- the exit status for words with this fault
 abbrev pub status_of : WordsFault → ℕ
 status_of (Words error) = if is_shown (kind_of error) then STATUS_DONE else STATUS_WORDS
 status_of Disks = STATUS_WORDS
@@ -326,21 +326,21 @@ status_of Memory = STATUS_MEMORY
 
 -- ---- clap's errors as faults
 
--- the error is that a command is unknown
+-- the error is an unknown command
 abbrev pub is_invalid : ErrorKind → Bool
 is_invalid kind.InvalidSubcommand = true
 is_invalid _ = false
 
--- so is a fault
+-- the fault is an unknown command
 abbrev pub is_unknown : WordsFault → Bool
 is_unknown (Words error) = is_invalid (kind_of error)
 is_unknown _ = false
 
--- the error is that memory ran out
+-- the error is that memory ran out in clap
 abbrev pub is_memory : ErrorKind → Bool
 is_memory kind.OutOfMemory = true
 is_memory _ = false
 
--- the fault that an error of clap's becomes
+-- an error of clap's as a fault
 abbrev pub fault_from : Error → WordsFault
 fault_from error = if is_memory (kind_of error) then Memory else Words error

@@ -1,2 +1,2 @@
--- Laws of the definitions, with their proofs: a type or a trait cites them, so they cannot stand among the proofs.
+-- Laws of the definitions, with their proofs. They are here, not among the proofs, because types and traits cite them.
 pub mod Played

@@ -1,6 +1,6 @@
-//! PATHS: the list that says in which images the disks of a stack lie.
+//! PATHS: the list that says which images hold the disks of a stack.
 //!
-//! It is read and checked after the stack is loaded, since its names are looked up there.
+//! It is read and checked after the stack is loaded, because the stack's names are looked up in it.
 
 ghost use Rattle.dmremap.specs.Prelude.{Err, IfErr, IfOk, Ok, Some, delivery, IsReadOn, Memory, Paths, part_read, IsReadOnIf, delivered_if, AreSettled, places_in, images_in};
 ghost use Rattle.std.specs.Prelude.{◌≡◌, ◌≢◌};
@@ -11,9 +11,9 @@ use dm_store::{DiskImages, listed_images};
 use dm_table::{Input, LoadFault, Part, parse_paths, read_part};
 use std::alloc::Global;
 
-/// Reads a list of paths, and looks up which image each disk of a stack lies in.
+/// Reads a list of paths, and looks up which image holds each disk of a stack.
 ///
-/// `Memory` only where memory ran out; else the first fault of the first check that finds any.
+/// Returns `Memory` only if memory ran out; otherwise the first fault of the first check that finds any.
 pub(crate) fn load_images<P: Input>(
     alloc: Global,
     stack: &Stack,
@@ -30,7 +30,7 @@ pub(crate) fn load_images<P: Input>(
     listed_images(alloc, stack, &listed)
 }
 
-/// Reads the images of disks from PATHS, which may be missing: then it is refused as one that can't be read.
+/// Reads where the images of disks are from PATHS. A missing PATHS is refused like one that can't be read.
 pub(crate) fn load_images_if<P: Input>(
     alloc: Global,
     stack: &Stack,

@@ -1,8 +1,7 @@
 //! How a command exits: its status and its message.
 //!
-//! A command does its work and says how it would exit; only then is its output closed, and the message
-//! told. A new way to exit is a variant here, with its status and its message here and in
-//! `specs/Exit.antt`.
+//! A command does its work and returns how it would exit; only then is its output closed and its message written. A
+//! new way to exit is a variant of `Exit`, with its status and its message here and in `specs/Exit.antt`.
 
 ghost use Rattle.dmremap.specs.Prelude.{OnErr, OnOk, false, Exit, exit_after, exit_message, exit_status, is_refused, load_status, name_status, refusal_status, Exits, IsClosedAs};
 ghost use Rattle.dmremap.specs.declared.exit.Exit.TheVariants.{Ended, Refused};
@@ -26,34 +25,34 @@ use lvm_volume::NameFault;
 /// Why a command was refused before it wrote anything.
 #[derive(Drop)]
 pub(crate) enum Refusal {
-    /// The load was refused, or the list of paths.
+    /// The load or the list of paths was refused.
     Load(LoadFault),
-    /// The head of a disk was refused, with this message.
+    /// The head of a disk was refused with this message.
     Head(HeadMessage),
-    /// A store was refused, with this message.
+    /// An exception store was refused with this message.
     Store(StoreMessage),
-    /// The requests before those of a run were refused.
+    /// The requests of `--before` were refused.
     Earlier(EarlierFault),
-    /// The name was not built.
+    /// The name can't be built.
     Name(NameFault),
-    /// No parts build the name.
+    /// The name to split isn't built from any parts.
     Split,
-    /// Two claims of the stack meet.
+    /// Two claims of the stack clash, so that it can't be replayed.
     Untidy,
-    /// No device has the name that was asked for.
+    /// No device of the stack has the requested name.
     Device,
-    /// The sectors that were asked for go past the end of their device.
+    /// The requested sectors go past the end of their device.
     PastEnd,
 }
 
 /// How a command exits.
 #[derive(Drop)]
 pub(crate) enum Exit {
-    /// Nothing was written.
+    /// The command was refused, and wrote nothing.
     Refused(Refusal),
-    /// All was written, or the requests or the output ended it so.
+    /// The command wrote all of its output, or a request or a failed stream ended it.
     Ended(Ending),
-    /// The request of this number names no top device; those before it were answered.
+    /// The request with this number names no top device; those before it were answered.
     NotTop(u64),
     /// Memory ran out at a request; those before it were answered.
     Memory,
@@ -62,7 +61,7 @@ pub(crate) enum Exit {
 }
 
 impl Refusal {
-    /// The exit status.
+    /// The exit status of a command refused for this reason.
     fn status(&self) -> u8
         ensures { result ≡ refusal_status self.now }
     {
@@ -73,7 +72,7 @@ impl Refusal {
         }
     }
 
-    /// Tells why, and returns the exit status.
+    /// Writes the message of the refusal, and returns the exit status.
     pub(crate) fn tell<M: Output>(&self, messages: &mut M) -> u8
         ensures { Exits (Refused self.now) result (M.past messages.old) (M.past messages.new) }
     {
@@ -92,7 +91,7 @@ impl Refusal {
     }
 }
 
-/// The exit status of a refused load.
+/// The exit status of a load that is refused.
 fn load_status(kind: LoadKind) -> u8
     ensures { result ≡ load_status kind }
 {
@@ -102,7 +101,7 @@ fn load_status(kind: LoadKind) -> u8
     }
 }
 
-/// The exit status where a name was not built.
+/// The exit status for a name that can't be built.
 fn name_status(fault: NameFault) -> u8
     ensures { result ≡ name_status fault }
 {
@@ -113,14 +112,14 @@ fn name_status(fault: NameFault) -> u8
 }
 
 impl Exit {
-    /// The exit of a load that was refused.
+    /// The exit of a command whose load was refused.
     pub(crate) fn unloaded(fault: LoadFault) -> Exit
         ensures { result ≡ Refused (Load fault) }
     {
         Exit::Refused(Refusal::Load(fault))
     }
 
-    /// The exit after all was written, or after a write that failed.
+    /// The exit of a command that wrote all of its text, or whose write failed.
     pub(crate) fn after(written: Result<(), OutFault>) -> Exit
         ensures { result ≡ exit_after written }
     {
@@ -130,7 +129,7 @@ impl Exit {
         }
     }
 
-    /// The exit status.
+    /// The exit status of the command.
     pub(crate) fn status(&self) -> u8
         ensures { result ≡ exit_status self.now }
     {
@@ -145,7 +144,7 @@ impl Exit {
         }
     }
 
-    /// The message of a command that was not refused: one line, or empty if all was done.
+    /// The message of a command that was not refused: one line, or empty if the command did all that was asked.
     fn message(&self) -> LoadMessage
         requires { is_refused self.now ≡ false }
         ensures { result.items ≡ exit_message self.now }
@@ -163,7 +162,7 @@ impl Exit {
         text
     }
 
-    /// Tells why a command exits so, if not all was done, and returns the exit status. No output is closed.
+    /// Writes the command's message, if it has one, and returns the exit status. The output isn't closed.
     pub(crate) fn tell<M: Output>(&self, messages: &mut M) -> u8
         ensures { Exits self.now result (M.past messages.old) (M.past messages.new) }
     {
@@ -184,7 +183,7 @@ impl Exit {
         }
     }
 
-    /// Whether no write failed.
+    /// The result of the command's writes: an error if one of them failed.
     fn written(&self) -> Result<(), OutFault>
         ensures ok { OnOk result (self.now ≢ Ended WriteFault) }
         ensures err { OnErr result (self.now ≡ Ended WriteFault) }
@@ -195,8 +194,8 @@ impl Exit {
         }
     }
 
-    /// Closes the output of a command that would exit so, unless it was refused; then tells why not all was
-    /// done, and returns the exit status.
+    /// Closes the output of a command that would exit like this, unless it was refused. Then writes the message, if
+    /// there is one, and returns the exit status.
     pub(crate) fn finish<W: Output, M: Output>(&self, output: &mut W, messages: &mut M) -> u8
         ensures { (exit : Exit) × IsClosedAs self.now (W.past output.old) (W.past output.new) exit
             × Exits exit result (M.past messages.old) (M.past messages.new) }

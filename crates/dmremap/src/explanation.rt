@@ -1,4 +1,4 @@
-//! What is said of the word of a message, for who asks `help` about it.
+//! What `dmremap help MESSAGE` prints about the word of a message.
 
 ghost use Rattle.dmremap.specs.Prelude.{length, map, option_map, list_any, Does, HasDone, after, before, explanation, first_entries, fits, is_explained, later_entries, part_in, part_meant, table_of, texts_of, word_in, Prints, SaidBy};
 ghost use Rattle.dm_table.specs.io.Progress.{Wrote};
@@ -9,7 +9,7 @@ use crate::messages::{Entry, FIRST_ENTRIES, LATER_ENTRIES};
 use crate::printing::write_both;
 use dm_table::{OutFault, Output};
 
-/// Whether anything is said of a message.
+/// Whether the manual explains the word of a message.
 pub(crate) fn is_explained(message: &str) -> bool
     ensures { result ≡ is_explained message.now }
 {
@@ -17,7 +17,7 @@ pub(crate) fn is_explained(message: &str) -> bool
     has_entry(table_of(word), None, word)
 }
 
-/// Prints what is said of a message, and says how the command would exit. Nothing is flushed.
+/// Prints the explanation of a message, and returns how the command would exit. Doesn't flush the output.
 pub(crate) fn print_explanation<W: Output>(message: &str, output: &mut W) -> Exit
     ensures { HasDone (Does (SaidBy (λ said. Prints (explanation message.now) ≡ said)))
         (W.past output.old) (W.past output.new) result }
@@ -25,7 +25,7 @@ pub(crate) fn print_explanation<W: Output>(message: &str, output: &mut W) -> Exi
     Exit::after(write_explanation(message, output))
 }
 
-/// Writes what is said of a message, as it is told or without its beginning; of a word alone, all entries of that
+/// Writes the explanation of a message, which may lack its first words. For a word alone, writes all entries of the
 /// word, with an empty line between them.
 fn write_explanation<W: Output>(message: &str, output: &mut W) -> Result<(), OutFault>
     ensures { Wrote (W.past output.old) (W.past output.new) result (explanation message.now) }
@@ -35,7 +35,7 @@ fn write_explanation<W: Output>(message: &str, output: &mut W) -> Result<(), Out
     write_entries(entries, part_meant(message, word, entries), word, output)
 }
 
-/// Writes those entries that are about a word in messages of a part, if one is said, or of any.
+/// Writes the entries that explain a word: in messages of `part` if one is given, or else of any part.
 fn write_entries<W: Output>(
     entries: &[Entry<'_>],
     part: Option<&str>,
@@ -56,7 +56,7 @@ fn write_entries<W: Output>(
     Ok(())
 }
 
-/// The part of a message, if one of some entries is about its word in messages of that part.
+/// The part of a message, if an entry explains this word in messages of that part.
 fn part_meant<'a>(message: &'a str, word: &str, entries: &[Entry<'_>]) -> Option<&'a str>
     ensures { option_map (λ part. part.now) result ≡ part_meant message.entry.now word.now
         (map (λ entry. ((entry.0.0.now, entry.0.1.now), entry.1.now, entry.2.now)) entries.now) }
@@ -69,7 +69,7 @@ fn part_meant<'a>(message: &'a str, word: &str, entries: &[Entry<'_>]) -> Option
     }
 }
 
-/// The table that has the entries of a word, if there are any.
+/// The table that holds the entries of a word, if it has any.
 fn table_of(word: &str) -> &'static [Entry<'static>]
     ensures { map (λ entry. ((entry.0.0.now, entry.0.1.now), entry.1.now, entry.2.now)) result.now ≡ table_of word.now }
 {
@@ -81,21 +81,21 @@ fn table_of(word: &str) -> &'static [Entry<'static>]
     }
 }
 
-/// The entries of the first words.
+/// The manual's entries for the first words.
 fn first_entries() -> &'static [Entry<'static>]
     ensures { map (λ entry. ((entry.0.0.now, entry.0.1.now), entry.1.now, entry.2.now)) result.now ≡ first_entries }
 {
     &FIRST_ENTRIES
 }
 
-/// The entries of the other words.
+/// The manual's entries for the words that `first_entries` leaves out.
 fn later_entries() -> &'static [Entry<'static>]
     ensures { map (λ entry. ((entry.0.0.now, entry.0.1.now), entry.1.now, entry.2.now)) result.now ≡ later_entries }
 {
     &LATER_ENTRIES
 }
 
-/// Whether one of some entries is about a word in messages of a part, if one is said, or of any.
+/// Whether an entry explains this word: in messages of `part` if one is given, or else of any part.
 fn has_entry(entries: &[Entry<'_>], part: Option<&str>, word: &str) -> bool
     ensures { result ≡ list_any (fits (option_map (λ part. part.now) part.entry) word.entry.now)
         (map (λ entry. ((entry.0.0.now, entry.0.1.now), entry.1.now, entry.2.now)) entries.entry.now) }
@@ -108,7 +108,7 @@ fn has_entry(entries: &[Entry<'_>], part: Option<&str>, word: &str) -> bool
     false
 }
 
-/// Whether an entry is about a word in messages of a part, if one is said, or of any.
+/// Whether the entry explains this word: in messages of `part` if one is given, or else of any part.
 fn fits(part: Option<&str>, word: &str, entry: &Entry<'_>) -> bool
     ensures { result ≡ fits (option_map (λ part. part.now) part.entry) word.now
         ((entry.now.0.0.now, entry.now.0.1.now), entry.now.1.now, entry.now.2.now) }
@@ -119,21 +119,21 @@ fn fits(part: Option<&str>, word: &str, entry: &Entry<'_>) -> bool
     }
 }
 
-/// The part of a message, which stands first, without the name or the number behind it.
+/// The part that a message is about: its first word after `dmremap: `, without the name or number that may follow.
 fn part_in(message: &str) -> &str
     ensures { result.now ≡ part_in message.now }
 {
     before(" ", before(": ", after("dmremap: ", message)))
 }
 
-/// The word of a message, which stands last, but for a place.
+/// The word of a message: its end, without ` at PLACE`.
 fn word_in(message: &str) -> &str
     ensures { result.now ≡ word_in message.now }
 {
     before(" at ", after(": ", after(": ", message)))
 }
 
-/// What stands in a text before the first mark, or all where there is none.
+/// The text before the first `mark`, or the whole text if there is none.
 fn before<'a>(mark: &str, text: &'a str) -> &'a str
     requires { 0 < length mark.now }
     ensures { result.now ≡ before mark.now text.now }
@@ -144,7 +144,7 @@ fn before<'a>(mark: &str, text: &'a str) -> &'a str
     }
 }
 
-/// What stands after it.
+/// The text after the first `mark`, or the whole text if there is none.
 fn after<'a>(mark: &str, text: &'a str) -> &'a str
     requires { 0 < length mark.now }
     ensures { result.now ≡ after mark.now text.now }

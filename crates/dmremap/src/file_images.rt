@@ -1,9 +1,9 @@
-//! Images that are files or block devices, each opened at its first read, and only to read it.
+//! Images that are files or block devices, each opened read-only, at its first read.
 //!
-//! Some stay open; an image whose place another took is opened again when it is asked for. An image that can't be
-//! opened is one that can't be read, and why is not told. What is neither a file nor a block device isn't opened: a
-//! pipe would wait for a writer. Each read names its place, and one that the image doesn't fill, since it ends before,
-//! fails.
+//! At most 64 stay open; an image that was closed for another is opened again when it is read. An image that can't be
+//! opened counts as one that can't be read, and the reason isn't reported. Only files and block devices are opened:
+//! opening a pipe would wait for a writer. Each read names its offset, and fails if the image ends before all of its
+//! bytes.
 
 ghost use Rattle.dmremap.specs.Prelude.{IfOk, Contents, AgreesWith};
 ghost use Rattle.std.specs.Prelude.{◌≡◌};
@@ -14,27 +14,27 @@ use std::fs;
 use std::fs::File;
 use std::os::unix::fs::{FileExt, FileTypeExt};
 
-/// How many images stay open at most.
+/// The most images that are open at once.
 const MOST_OPEN: u64 = 64;
 
-/// The image of a line, while it is open.
+/// An open image, with the line of PATHS that names it.
 #[derive(Drop)]
 struct OpenImage {
     line: u64,
     file: File,
 }
 
-/// The images of disks, and all that was read of them.
+/// The images of disks, with a log of all that was read of them.
 #[derive(Drop)]
 pub(crate) struct FileImages<'r> {
     files: &'r HostRuntime,
-    /// The images that are open, each at the remainder of its line.
+    /// The open images: that of line L is in slot L modulo `MOST_OPEN`.
     slots: Vec<Option<OpenImage>>,
     log: ReadLog,
 }
 
 impl<'r> FileImages<'r> {
-    /// Images of which none is open. It fails only when out of memory.
+    /// Images of which none is open yet. Fails only when out of memory.
     pub(crate) fn new(alloc: Global, files: &'r HostRuntime) -> Result<FileImages<'r>, AllocError>
         ensures { IfOk result (λ images. (held : Contents) → ⟦<FileImages<'r> as Images>⟧.IsSeen images held) }
     {
@@ -47,7 +47,7 @@ impl<'r> FileImages<'r> {
         })
     }
 
-    /// Reads the bytes of the image of a line from a byte of it on, and opens it unless it is open.
+    /// Reads bytes of the image that a line names, from offset `byte` on. Opens the image if it isn't open.
     fn read_at(
         &mut self,
         line: u64,
@@ -66,7 +66,7 @@ impl<'r> FileImages<'r> {
             None => false,
         };
         if !is_open {
-            // The other is closed first.
+            // The image in this slot is closed before the next one is opened.
             *slot = None;
             *slot = open_image(files, line, path);
         }
@@ -96,8 +96,8 @@ impl<'r> Images for FileImages<'r> {
     }
 }
 
-/// The image of a line: the file or the block device at a path, if it can be opened. It takes the place of no standard
-/// stream that is closed: a clone has a number above theirs.
+/// Opens the file or block device at `path`, if that can be opened. The clone keeps its descriptor above those of the
+/// standard streams, even if one of them is closed.
 fn open_image(files: &HostRuntime, line: u64, path: &str) -> Option<OpenImage> {
     let kind = fs::metadata(files, path).ok()?.file_type();
     if !kind.is_file() && !kind.is_block_device() {

@@ -1,4 +1,4 @@
-//! The texts of the help, and the version. No line has more than 80 columns.
+//! The help texts, and the version. No line is longer than 80 columns.
 
 /// The version of the program.
 pub(crate) const VERSION: &str = "0.1.0";
@@ -23,7 +23,7 @@ Exit status
 
 Manual: man dmremap";
 
-/// The help of `help`.
+/// The text that `dmremap help help` prints.
 pub(crate) const HELP: &str = "\
 Explains the program, a command, or a word of a message
 
@@ -202,7 +202,7 @@ Example
 
 pub(crate) const READ_ABOUT: &str = "Writes the bytes of a device";
 
-/// DEVICE is the last word, with or without DISKS before it.
+/// The usage line of `read`: DEVICE is the last word, whether or not DISKS is there.
 pub(crate) const READ_USAGE: &str = "dmremap read [OPTIONS] <FORMAT> <FILE> [DISKS] <DEVICE>";
 
 pub(crate) const READ_NOTES: &str = "\

@@ -1,8 +1,9 @@
-//! The load of a volume group from the images of its disks: a list of paths, the heads of the disks that it names,
-//! and the text that these have.
+//! Loads a volume group from the images of its disks: from a list of paths, the heads of the disks that it names, and
+//! the LVM2 text in these heads.
 //!
-//! The order here is the order of the refusals: the list, the heads, disk by disk, the text, what it describes, and the
-//! first disk that ends before its text says. Stores lie in the same images, so they are read through the same list.
+//! Faults take precedence in this order: the list; the heads, disk by disk; the LVM2 text; the stack that it
+//! describes; the first disk that is shorter than the text says. The exception stores are read through the same list,
+//! because they lie in the same images.
 
 ghost use Rattle.dmremap.specs.Prelude.{Err, IfErr, IfOk, Ok, Some, length, slice_get, Memory, Paths, Delivery, delivery, IsReadOn, part_read, Contents, heads_of, AreSeen, HeadsOpen, ImagesOpen, IsStoppedBy, IsUnowned, by_text, len_of, list_in, short_of, IsOpened};
 ghost use Rattle.lvm_head.specs.declared.fault.HeadFault.TheVariants as faults;
@@ -18,12 +19,12 @@ use lvm_head::{HeadFault, HeadRefusal, Heads, SECTOR, read_heads, read_sector};
 use lvm_volume::{DiskFault, OwnedFault, Owners, parse_owned};
 use std::alloc::Global;
 
-/// The most lines of a list of images: as many as the disks of a stack.
+/// The most lines of a list of images: as many as a stack can have disks.
 const MOST_LINES: usize = 1024;
 
-/// Reads a list of paths whole.
+/// Reads all of a list of paths.
 ///
-/// `Memory` only where memory ran out; else the first fault of the first check that finds any.
+/// Returns `Memory` only if memory ran out; otherwise the first fault of the first check that finds any.
 pub(crate) fn read_list<P: Input>(alloc: Global, paths: &mut P) -> Result<Vec<DiskPath>, LoadFault>
     ensures given { IfOk result (λ listed.
         list_in (part_read Paths (delivery (P.past paths.old) (P.past paths.new))) ≡ Some (Ok listed.items)) }
@@ -45,10 +46,10 @@ pub(crate) fn read_list<P: Input>(alloc: Global, paths: &mut P) -> Result<Vec<Di
     Ok(listed)
 }
 
-/// Loads the group of the disks of a list.
+/// Loads the volume group whose disks are listed.
 ///
-/// `Memory` only where memory ran out; else the first head that is refused, or the first fault of the text, or of the
-/// first check that finds any.
+/// Returns `Memory` only if memory ran out; otherwise the first head that is refused, or the first fault of the LVM2
+/// text or of the first check of the stack that finds any.
 pub(crate) fn load_images<I: Images>(
     alloc: Global,
     disks: &mut ListedImages<I>,
@@ -71,7 +72,7 @@ pub(crate) fn load_images<I: Images>(
     }
 }
 
-/// How many sectors a disk of a stack has, by its name; 0 where the stack has none of that name.
+/// How many sectors the stack gives the disk of this name; 0 if it has no disk of that name.
 fn len_of(stack: &Stack, name: &str) -> u64
     ensures is { result ≡ len_of stack.now name.now }
     ensures near { result ≤ 2 ^ 50 }
@@ -82,7 +83,7 @@ fn len_of(stack: &Stack, name: &str) -> u64
     }
 }
 
-/// The first disk of a list that hasn't the last sector that it has by the text.
+/// The first listed disk whose last sector, according to the LVM2 text, can't be read.
 fn first_short<I: Images>(disks: &mut ListedImages<I>, stack: &Stack) -> Option<usize>
     ensures paths { disks.new.paths.items ≡ disks.old.paths.items }
     ensures still { (held : DiskContents) → AreSeen (I.IsSeen disks.new.images) disks.new.paths.items held
@@ -101,7 +102,7 @@ fn first_short<I: Images>(disks: &mut ListedImages<I>, stack: &Stack) -> Option<
     None
 }
 
-/// Reads the heads of the disks of a list.
+/// Reads the heads of all listed disks.
 pub(crate) fn listed_heads<I: Images>(
     alloc: Global,
     disks: &mut ListedImages<I>,
@@ -118,7 +119,7 @@ pub(crate) fn listed_heads<I: Images>(
     read_heads(alloc, disks, count)
 }
 
-/// Loads the group of the text that heads have, by the names of their disks.
+/// Loads the volume group that the LVM2 text of the heads describes, with the listed names for its disks.
 fn load_owned(alloc: Global, paths: &[DiskPath], heads: &Heads) -> Result<Stack, Refusal>
     ensures { IsOpened (HeadsOpen paths.now (Ok heads.now)) result }
 {
@@ -135,7 +136,7 @@ fn load_owned(alloc: Global, paths: &[DiskPath], heads: &Heads) -> Result<Stack,
     }
 }
 
-/// Why the text of the disks of a list opens no run.
+/// The refusal for a fault of the LVM2 text in the heads of the listed disks.
 fn unowned(paths: &[DiskPath], fault: OwnedFault) -> Refusal
     ensures { IsUnowned paths.now fault result }
 {
@@ -145,7 +146,7 @@ fn unowned(paths: &[DiskPath], fault: OwnedFault) -> Refusal
     }
 }
 
-/// Why a disk is refused by its text.
+/// The fault of a disk's head for a disk that the LVM2 text refuses.
 fn by_text(fault: DiskFault) -> HeadFault
     ensures { result ≡ by_text fault }
 {
@@ -156,7 +157,7 @@ fn by_text(fault: DiskFault) -> HeadFault
     }
 }
 
-/// Why the disk of a place in a list opens no run.
+/// The refusal for a fault in the head of a listed disk.
 pub(crate) fn stopped(paths: &[DiskPath], disk: usize, fault: HeadFault) -> Refusal
     ensures { IsStoppedBy (slice_get paths.now disk) fault result }
 {

@@ -1,5 +1,4 @@
-//! The metadata text of the volume group whose disks lie in images, as `GroupImages` reads it, but printed and not
-//! parsed.
+//! Prints the LVM2 text of the volume group whose disks lie in images, found as `GroupImages` finds it but not parsed.
 
 ghost use Rattle.dmremap.specs.Prelude.{InputPast, delivery, written_since, HasWritten, IsReadOn, Contents, Answers, unread, Does, failed_writes, AreImagesUsed, PrintsImages, AskedBy, StreamsLeft, moved};
 
@@ -11,14 +10,14 @@ use dm_store::Images;
 use dm_table::{Input, Output};
 use std::alloc::Global;
 
-/// Prints the metadata text that the heads of the disks of a list of paths have, byte by byte. It returns the exit
-/// status. Nothing is parsed or loaded: the text may be of a group that `map` refuses, or not name a disk of
-/// the list; it is empty where no head has any.
+/// Prints the LVM2 text in the heads of the disks that a list of paths names, byte by byte, and returns the exit
+/// status. Nothing is parsed or loaded: the text may be of a group that `map` refuses, or lack a disk of the list. It
+/// is empty if no head has a text.
 ///
-/// Status 1 is given where the list or the head of a disk is refused: then nothing was written or flushed. Status 5 is
-/// given where the output failed, status 6 where memory ran out, which writes nothing, and else status 0.
+/// The status is 1 if the list or a disk's head is refused: then nothing was written or flushed. It is 5 if the
+/// output failed, 6 if memory ran out, in which case nothing was written, and 0 otherwise.
 ///
-/// Cost: that of the heads (`read_heads`).
+/// Cost: that of reading the heads (`read_heads`).
 pub fn print_metadata<P: Input, I: Images, W: Output, M: Output>(
     alloc: Global,
     paths: &mut P,
@@ -26,17 +25,17 @@ pub fn print_metadata<P: Input, I: Images, W: Output, M: Output>(
     output: &mut W,
     messages: &mut M,
 ) -> u8
-    // Whatever the images hold that agrees with all that was read of them: that and the list make one answer, which is
-    // written, told and returned.
+    // For any contents of the images that agree with all reads of them: the contents and the list determine one
+    // answer, which is written, reported and returned.
     ensures answers { (held : Contents) → I.IsSeen disks.new.images held
         → Answers (λ asked. PrintsImages (delivery (P.past paths.old) (P.past paths.new)) held) unread
         (moved W.past output.old output.new) (moved M.past messages.old messages.new) result }
-    // The status says what came of the output and of the messages.
+    // The exit status says what became of the output and of the messages.
     ensures left { StreamsLeft result unread (moved W.past output.old output.new)
         (moved M.past messages.old messages.new) }
-    // The list is only read on, and nothing is asked of it after an end or a fault.
+    // The list is never read after its end or after a fault.
     ensures paths_read_on { IsReadOn (P.past paths.old) (P.past paths.new) }
-    // The images are asked for only where the list is accepted.
+    // The images are read only if the list is accepted.
     ensures images_read { AreImagesUsed (delivery (P.past paths.old) (P.past paths.new))
         disks.old.images disks.new.images }
 {
@@ -44,7 +43,7 @@ pub fn print_metadata<P: Input, I: Images, W: Output, M: Output>(
     exit.finish(output, messages)
 }
 
-/// Prints the text, and says how the command would exit. Nothing is flushed.
+/// Prints the LVM2 text, and returns how the command would exit. Doesn't flush the output.
 fn answer<P: Input, I: Images, W: Output>(
     alloc: Global,
     paths: &mut P,

@@ -1,4 +1,4 @@
-//! The images of a list of paths as disks, whose heads are read by their places in the list.
+//! Images as the disks of a list of paths: a disk is read by its index in the list.
 
 ghost use Rattle.dmremap.specs.Prelude.{AreSeen};
 ghost use Rattle.std.specs.Prelude.{◌≡◌};
@@ -8,7 +8,7 @@ use dm_table::DiskPath;
 use lvm_head::{Disks, ReadFault};
 use std::alloc::Global;
 
-/// Images, and the list that says which disks lie in them.
+/// Images, and the list that says which disk lies in which image.
 #[derive(Drop)]
 pub struct ListedImages<I> {
     pub(crate) images: I,
@@ -16,7 +16,7 @@ pub struct ListedImages<I> {
 }
 
 impl<I> ListedImages<I> {
-    /// Images with an empty list. No memory is taken.
+    /// Images with an empty list. Allocates nothing.
     pub fn new(alloc: Global, images: I) -> ListedImages<I>
         ensures { result.images ≡ images }
     {

@@ -1,9 +1,8 @@
-//! The load: the parts are read whole, their texts are parsed, and what they describe is checked.
+//! The load: reads the parts whole, parses their texts, and checks the stack that they describe.
 //!
-//! Nothing is kept of a refused load. The order here is the order of the refusals: a part that was
-//! not read takes precedence over any text, the source's text over the disk list's, and the texts
-//! over what they describe. A new format is an arm of `load` here and of `PartsGive` in
-//! `specs/Load.antt`, and takes the parts that it has.
+//! A refused load keeps nothing. Faults take precedence in this order: a part that can't be read, the source's text,
+//! the disk list's text, the stack that they describe. A new format is an arm of `load` here and of `PartsGive` in
+//! `specs/Load.antt`.
 
 ghost use Rattle.dmremap.specs.Prelude.{IfOk, IfErr, None, OnOk, Some, delivery, Disks, Memory, Read, fault_at, first_fault, TextOf, part_read, IsReadOn, IsReadOnIf, delivery_if, DescribesDevices, Loads, PartsGive, device_checks};
 ghost use Rattle.dm_table.specs.load.PartInput.{Refuses};
@@ -18,10 +17,10 @@ use dm_table::{
 use lvm_volume::parse_metadata;
 use std::alloc::Global;
 
-/// Loads the stack of a source and its disk list: both are read, then parsed, then what they describe is
-/// checked. Where the format has no disk list, none is read.
+/// Loads the stack of a source and its disk list: reads both, parses both, and checks the stack that they describe.
+/// If the format has no disk list, none is read.
 ///
-/// `Memory` only where memory ran out; else the first fault of the first check that finds any.
+/// Returns `Memory` only if memory ran out; otherwise the first fault of the first check that finds any.
 #[tactic(auto, using(crate::proofs::LoadLemmas::untouched))]
 pub(crate) fn load<S: Input, D: Input>(
     alloc: Global,
@@ -49,7 +48,7 @@ pub(crate) fn load<S: Input, D: Input>(
     }
 }
 
-/// The fault of a part that can't be read.
+/// The load fault for a part that can't be read.
 pub(crate) fn unread(part: Part) -> LoadFault
     ensures { result ≡ fault_at part Read 0 }
 {
@@ -59,7 +58,7 @@ pub(crate) fn unread(part: Part) -> LoadFault
     }
 }
 
-/// Reads a disk list, which is refused as one that can't be read where it is missing.
+/// Reads the disk list. A missing one is refused like one that can't be read.
 fn read_disks<D: Input>(alloc: Global, disks: &mut Option<D>) -> Result<Vec<u8>, LoadFault>
     ensures text { IfOk result
         (λ text. part_read Disks (delivery_if D.past disks.old disks.new) ≡ TextOf text.items) }
@@ -73,7 +72,7 @@ fn read_disks<D: Input>(alloc: Global, disks: &mut Option<D>) -> Result<Vec<u8>,
     }
 }
 
-/// Parses a text of devices in a form.
+/// Parses a text of devices in the given form.
 fn parse_devices(alloc: Global, form: TableForm, text: &[u8]) -> Result<Vec<DeviceSpec>, LoadFault>
     ensures described { IfOk result (λ devices. DescribesDevices form text.now devices.items) }
     ensures sound { OnOk result (first_fault (device_checks form text.now) ≡ None) }

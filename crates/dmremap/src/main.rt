@@ -1,7 +1,7 @@
 //! dmremap maps block requests through device-mapper tables to the disks below.
 //!
-//! This file is the table of contents: `words` reads the command line, `map_whole`, `map_stored`, `other_whole` and
-//! `print_metadata` do the work, and `main` joins them to the real files and streams and does nothing else.
+//! This file is the table of contents: `words` reads the command line; `map_whole`, `map_stored`, `other_whole` and
+//! `print_metadata` do the work; `main` only connects them to the real files and streams.
 #![tactic(auto)]
 
 ghost use Rattle.dmremap.specs.Prelude.{true, job_words, is_other};
@@ -56,10 +56,10 @@ use std::io::{IsTerminal, Stderr, Stdin, Stdout};
 use std::process::ExitCode;
 use words::{WordsFault, not_text, read_words};
 
-/// A file of the command, which is of the type of its part.
+/// A file of the command; `P` is the part of the input that it holds.
 type File<'r, P> = Counted<PartFile<'r, HostRuntime, P>>;
 
-/// The files of a source, and images.
+/// The files of a source, and the images of its disks.
 type FileParts<'r> = Parts<
     File<'r, SourcePart>,
     File<'r, DisksPart>,
@@ -67,24 +67,24 @@ type FileParts<'r> = Parts<
     FileImages<'r>,
 >;
 
-/// The list of the images of a group.
+/// A list of a volume group's images, and these images.
 type FileGroup<'r> = GroupImages<File<'r, PathsPart>, FileImages<'r>>;
 
-/// The requests.
+/// The stream of requests: the standard input.
 type Requests = Counted<Stdin>;
 
-/// Where answers go.
+/// The stream of answers: the standard output, gathered into larger writes.
 type Answers = Gathered<Counted<Stdout>>;
 
-/// Where messages go.
+/// The stream of messages: the standard error.
 type Messages = Counted<Stderr>;
 
-/// What follows a message on a terminal.
+/// The line that follows a message on a terminal.
 const NEXT_STEP: &str =
     "what it means: dmremap help WORD; what mends it: dmremap-tools explain COMMAND";
 
-/// Runs the command that the words ask for, and exits with its status. On a terminal, a last line names what explains a
-/// refusal or a fault.
+/// Runs the command that the words ask for, and exits with its status. On a terminal, a last line says which commands
+/// explain a refusal or a fault.
 fn main(rt: HostRuntime) -> ExitCode {
     let status = match begin(&rt) {
         Ok(status) => status,
@@ -96,7 +96,7 @@ fn main(rt: HostRuntime) -> ExitCode {
     ExitCode::from(status)
 }
 
-/// Does what the words ask for, where the stack has room for it, and returns the exit status.
+/// Does what the words ask for, if the stack has room for it, and returns the exit status.
 fn begin(rt: &HostRuntime) -> Result<u8, WordsFault> {
     if !has_stack_room(rt) {
         return Err(WordsFault::Memory);
@@ -104,8 +104,8 @@ fn begin(rt: &HostRuntime) -> Result<u8, WordsFault> {
     answer(rt)
 }
 
-/// Does what the words ask for, and returns the exit status. Its room on the stack is taken when it is called, and no
-/// sooner.
+/// Does what the words ask for, and returns the exit status. Never inlined, so that its stack frame exists only after
+/// the check that the stack has room for it.
 #[inline(never)]
 fn answer(rt: &HostRuntime) -> Result<u8, WordsFault> {
     let arguments = arguments_of(rt)?;
@@ -116,7 +116,7 @@ fn answer(rt: &HostRuntime) -> Result<u8, WordsFault> {
     do_job(rt, read_words(rt.alloc(), words.as_slice())?)
 }
 
-/// Does a job, and returns the exit status.
+/// Does the job, and returns the exit status.
 fn do_job<'r>(rt: &'r HostRuntime, job: Job<'r>) -> Result<u8, WordsFault> {
     match job {
         Job::Map {
@@ -156,7 +156,7 @@ fn do_job<'r>(rt: &'r HostRuntime, job: Job<'r>) -> Result<u8, WordsFault> {
     }
 }
 
-/// The words that the program is given, of which the first is its name.
+/// The program's arguments; the first is the program's name.
 fn arguments_of(rt: &HostRuntime) -> Result<Vec<String>, WordsFault> {
     match std::env::args(rt) {
         Ok(arguments) => Ok(arguments.collect(rt.alloc())?),
@@ -165,7 +165,7 @@ fn arguments_of(rt: &HostRuntime) -> Result<Vec<String>, WordsFault> {
     }
 }
 
-/// Maps the requests of the standard input through the tables of files, from the start.
+/// Maps the requests of the standard input through the tables of files, with all snapshots fresh.
 fn map_files(
     rt: &HostRuntime,
     format: Format,
@@ -185,8 +185,8 @@ fn map_files(
     )
 }
 
-/// Maps them through the tables of any source: from what its stores hold, and after the requests of a file, if there
-/// are these.
+/// Maps the requests of the standard input through the tables of any source, starting from what its exception stores
+/// hold and after the requests of a file, if these are given.
 fn map_from_state<O: Opens>(
     rt: &HostRuntime,
     source: &mut O,
@@ -204,7 +204,7 @@ fn map_from_state<O: Opens>(
     )
 }
 
-/// Does a job of another command with a source.
+/// Does a job other than `map` and `metadata` with the given source.
 fn do_with<'r>(
     rt: &'r HostRuntime,
     job: &Job<'_>,
@@ -223,8 +223,8 @@ fn do_with<'r>(
     }
 }
 
-/// Does a job of another command with what opens it. The bytes of a device are written in blocks, and so aren't
-/// gathered.
+/// Does a job other than `map` and `metadata` with what opens it. `read` writes the bytes of a device in whole
+/// blocks, so its output isn't gathered.
 fn do_other<O: Opens>(rt: &HostRuntime, job: &Job<'_>, source: &mut O) -> u8
     requires { is_other (job_words job.now) ≡ true }
 {
@@ -235,7 +235,7 @@ fn do_other<O: Opens>(rt: &HostRuntime, job: &Job<'_>, source: &mut O) -> u8
     }
 }
 
-/// Does a job of another command with what opens it and where its answers go.
+/// Does a job other than `map` and `metadata` with what opens it, and writes to `output`.
 fn do_to<O: Opens, W: Output>(rt: &HostRuntime, job: &Job<'_>, source: &mut O, output: &mut W) -> u8
     requires { is_other (job_words job.now) ≡ true }
 {
@@ -249,7 +249,7 @@ fn do_to<O: Opens, W: Output>(rt: &HostRuntime, job: &Job<'_>, source: &mut O, o
     )
 }
 
-/// Prints the metadata text of a group in images.
+/// Prints the LVM2 text of a volume group in images.
 fn print_text_of<'r>(rt: &'r HostRuntime, list: &'r str) -> Result<u8, WordsFault> {
     let GroupImages {
         list: mut paths,
@@ -264,7 +264,7 @@ fn print_text_of<'r>(rt: &'r HostRuntime, list: &'r str) -> Result<u8, WordsFaul
     ))
 }
 
-/// The files of a source, which are opened once they are read, and the images of a list of paths, if there is one.
+/// The files of a source, each opened at its first read, and the images of a list of paths, if there is one.
 fn parts_at<'r>(
     rt: &'r HostRuntime,
     format: Format,
@@ -281,7 +281,7 @@ fn parts_at<'r>(
     })
 }
 
-/// The images of a list, which are opened once they are read.
+/// The images of a list, each opened at its first read.
 fn group_at<'r>(rt: &'r HostRuntime, list: &'r str) -> Result<FileGroup<'r>, WordsFault> {
     Ok(GroupImages {
         list: file_at(rt, list),
@@ -289,12 +289,12 @@ fn group_at<'r>(rt: &'r HostRuntime, list: &'r str) -> Result<FileGroup<'r>, Wor
     })
 }
 
-/// A file of the command.
+/// A file of the command, at this path.
 fn file_at<'r, P>(rt: &'r HostRuntime, path: &'r str) -> File<'r, P> {
     Counted::new(PartFile::new(rt, path))
 }
 
-/// A file of the command, if there is one.
+/// A file of the command, if its path is given.
 fn file_if<'r, P>(rt: &'r HostRuntime, path: Option<&'r str>) -> Option<File<'r, P>> {
     match path {
         Some(path) => Some(file_at(rt, path)),
@@ -302,9 +302,9 @@ fn file_if<'r, P>(rt: &'r HostRuntime, path: Option<&'r str>) -> Option<File<'r,
     }
 }
 
-/// Prints why there is no job, and returns its exit status. Out of memory is told as by any command, and help or
-/// the version that could not be printed as an output that could not be written; whether a message could be printed
-/// makes no difference.
+/// Prints why the words ask for no job, and returns the exit status. Running out of memory is reported as by any
+/// command, and help or a version that can't be printed as a failed output. Whether a message can be printed makes no
+/// difference.
 fn refuse(rt: &HostRuntime, fault: &WordsFault) -> u8 {
     let mut messages: Messages = Counted::new(rt.stderr());
     if let WordsFault::Memory = fault {

@@ -1,5 +1,5 @@
-//! The run of `map` over a stack that is loaded, as it was begun: what `map_whole` and `map_stored` promise of a run
-//! stands here.
+//! The run of `map` over a loaded stack, from its start on. `map_whole` and `map_stored` make the same promises of a
+//! run, and this module keeps them.
 
 ghost use Rattle.dmremap.specs.Prelude.{IfOk, Option, IsErrAnd, Delivery, CanMap, Answers, IsOutOfMemory, IsBegunAt, IsOut, StreamsLeft, moved, MapsOver, Start};
 ghost use Rattle.dmremap.specs.declared.status.TheConstants.{STATUS_MEMORY};
@@ -12,7 +12,7 @@ use dm_stream::{Exchange, run};
 use dm_table::Output;
 use std::mem::forget;
 
-/// Runs requests over a stack as it was begun, and returns the exit status.
+/// Runs requests over a stack from its start, and returns the exit status.
 pub(crate) fn map_from<'s, Q: Exchange<W>, W: Output, M: Output>(
     stack: &'s Stack,
     begun: Result<Prepared<'s>, Refusal>,
@@ -43,7 +43,7 @@ pub(crate) fn map_from<'s, Q: Exchange<W>, W: Output, M: Output>(
                 messages,
                 status,
             );
-            // The program ends soon, and the system takes memory back at once, all together.
+            // The program ends soon, and the system then frees all memory at once.
             forget(texts);
             forget(mapper);
             Exit::Ended(ending).status()

@@ -1,4 +1,4 @@
-//! What opens a command that loads nothing: if it is asked, a source that can't be read.
+//! What opens a command that loads nothing. If it is opened all the same, its source can't be read.
 
 ghost use Rattle.dmremap.specs.Prelude.{None, Read, fault_at, RefusedBy, Loaded, fresh_start};
 ghost use Rattle.std.specs.Prelude.{◌≡◌};
@@ -13,7 +13,7 @@ use dm_stack::Stack;
 use dm_table::{Output, Part};
 use std::alloc::Global;
 
-/// No source.
+/// The source of a command that loads nothing.
 #[derive(Drop)]
 pub struct NoSource;
 

@@ -1,8 +1,8 @@
-//! What opens a command, before it reads requests or writes anything: devices, the state that a run over them begins
-//! from, and the images in which their disks lie. A new kind of source implements `Opens`; a new command is written once
-//! for all kinds.
+//! What opens a command, before it reads requests or writes anything: it loads devices, the state that a run over
+//! them starts in, and the images that hold their disks. A new kind of source implements `Opens`; a new command is
+//! written once for all kinds.
 //!
-//! What images hold can't be said beforehand, so each clause speaks of any contents that agree with all that was read.
+//! What images hold isn't known beforehand, so each clause is about any contents that agree with all reads of them.
 
 ghost use Rattle.dmremap.specs.Base.{IfErr, IfOk, None, Option, Some, InputPast, written_since, HasWritten, Description, Contents, CanMap};
 ghost use Rattle.dmremap.specs.Answers.{Answer};
@@ -24,51 +24,51 @@ use dm_stack::Stack;
 use dm_table::Output;
 use std::alloc::Global;
 
-/// What opens a command. `open` is called once, and `begin` or `read_sectors` after it, if at all.
+/// What opens a command. `open` is called once, and then at most one of `begin` and `read_sectors`.
 pub trait Opens {
-    /// Contents of all images that agree with all that was read of them so far.
+    /// The contents of all images agree with every read of them so far.
     ghost IsSeen: { Self → Contents → Type 0 };
 
-    /// What it opened from one moment to another, by what images hold.
+    /// The openings that the reads between two moments allow, if images hold these contents.
     ghost opens: { Self → Self → Contents → Opening → Type 0 };
 
-    /// The state from which a run over a stack starts, by what was read from one moment to another, and by what images
-    /// hold.
+    /// How a run over a stack starts. The reads between two moments and the images' contents decide it.
     ghost starts: { Self → Self → Contents → Description → Start };
 
-    /// What a read of sectors over a stack has to answer, by what was read from one moment to another, and by what
-    /// images hold, if that is settled.
+    /// What a read of sectors over a stack answers. The reads between two moments and the images' contents decide it;
+    /// None if they don't settle it.
     ghost reads: { Self → Self → Contents → RangeWords → Description → Option Answer };
 
-    /// It opened this stack from one moment to another, and did nothing else.
+    /// This source opened the stack between two moments, and did nothing else.
     ghost HasOpened: { Self → Self → Description → Type 0 };
 
-    /// From one moment to another, each input was only read on, and none before what comes in front of it was accepted.
+    /// Between two moments, no input was read after its end or a fault, nor before the inputs ahead of it were
+    /// accepted.
     ghost IsRead: { Self → Self → Type 0 };
 
-    /// From one moment to another, what is left alone where memory runs out was left alone.
+    /// Between two moments, what must be untouched if memory runs out was untouched.
     ghost IsLeft: { Self → Self → Type 0 };
 
     /// Reads the devices and their disks, and checks them.
     ///
     /// # Errors
     ///
-    /// That memory ran out; else the first fault of the first check that finds any.
+    /// Running out of memory; otherwise the first fault of the first check that finds any.
     fn open(&mut self, alloc: Global) -> Result<Stack, Refusal>
         ensures opened { (held : Contents) → IsSeen self.new held → IsOpened (opens self.old self.new held) result }
         ensures open { IfOk result (λ stack. HasOpened self.old self.new stack) }
         ensures read { IsRead self.old self.new }
         ensures left { IfErr result (λ refusal. IsOutOfMemory refusal → IsLeft self.old self.new) }
-        // It opens one thing at the most.
+        // At most one opening is allowed.
         ensures one { (old new : Self) (held : Contents) (a b : Opening)
             → opens old new held a → opens old new held b → a ≡ b };
 
-    /// Begins from the state that the stores of the stack hold that was opened; or, where it isn't told in which images
-    /// they lie, from the start.
+    /// Starts a run in the state that the exception stores of the opened stack hold; or with fresh snapshots, if no
+    /// list says which images they lie in.
     ///
     /// # Errors
     ///
-    /// That memory ran out; else what is refused of the list of paths, or the first store that is.
+    /// Running out of memory; otherwise the fault of the list of paths, or the first store that is refused.
     fn begin<'s>(&mut self, alloc: Global, stack: &'s Stack) -> Result<Prepared<'s>, Refusal>
         ensures going { IfOk result (λ prepared. CanMap stack.now prepared.mapper) }
         ensures texts { IfOk result (λ prepared. prepared.texts ≡ stack.now) }
@@ -81,8 +81,8 @@ pub trait Opens {
         ensures left { IfErr result (λ refusal. IsOutOfMemory refusal
             → (first : Self) → HasOpened first self.old stack.now → IsLeft first self.new) };
 
-    /// Writes the bytes of sectors of a device of the stack that was opened, in the state that its stores hold, and
-    /// says how the command would exit. Nothing is flushed.
+    /// Writes the bytes of a device's sectors in the state that the exception stores of the opened stack hold, and
+    /// returns how the command would exit. Doesn't flush the output.
     fn read_sectors<W: Output>(
         &mut self,
         alloc: Global,

@@ -1,10 +1,10 @@
-//! The commands but `map`: they print what a load gives or what a name says, replay requests, or write the bytes of a
-//! device.
+//! The commands other than `map` and `metadata`: they print what a load gives or what a name says, replay requests,
+//! or write the bytes of a device.
 //!
-//! What comes out goes by the words, by what opens the command and by the requests that were delivered, and by nothing
-//! else, unless memory runs out. A command does its work in `answer`, which says how it would exit; then the output is
-//! closed, and the message told. A new command is an arm of `answer` or of `answer_over` here, and of `JobAnswers` or
-//! of `JobMakes` in `specs/OtherWhole.antt`.
+//! The results depend only on the words, on what opens the command and on the delivered requests, unless memory runs
+//! out. A command does its work in `answer`, which returns how it would exit; then the output is closed and the
+//! message written. A new command is an arm of `answer` or of `answer_over` here, and of `JobAnswers` or of
+//! `JobMakes` in `specs/OtherWhole.antt`.
 
 ghost use Rattle.dmremap.specs.Prelude.{Option, false, true, Description, Contents, Delivery, delivery, written_since, HasWritten, Answer, Answers, IsOne, IsOneSettled, Does, exit_status, failed_writes, RangeWords, job_words, SoundAs, Loaded, Opening, JobAnswers, JobMakes, has_requests, is_loading, is_other, is_reading, ReplaysOver, AskedBy, StreamsLeft, moved, Start};
 ghost use Rattle.dmremap.specs.declared.status.TheConstants.{STATUS_MEMORY};
@@ -25,29 +25,29 @@ use dm_table::Output;
 use std::alloc::Global;
 use std::mem::forget;
 
-/// Does what a job asks for, of any command but `map` and `metadata`: prints the devices of a source in a form, once
-/// they are checked as for `map`; or the report of a check; or the name of a volume, or the parts of one; or what is
-/// said of a word of messages. Or it replays requests on the disks of a source, and writes for each what its sectors
-/// answer, in maximal runs, a line each: the disks hold what they held, and the replay begins from the state that the
-/// stores hold, if it is told where they lie, else from that where no chunk was taken. Or it writes the bytes of
-/// sectors of a device of a source, from the images in which its disks lie, in the state that the stores hold there. It
-/// returns the exit status.
+/// Does the job of any command other than `map` and `metadata`, and returns the exit status. It prints the devices of
+/// a source, once they are checked as for `map`; or the report of that check; or the device-mapper name of a volume,
+/// or the parts of one; or what the manual says of a word. Or it replays requests on the disks of a source, and
+/// writes what each request's sectors answer, one line for each maximal run: the disks hold what they held before,
+/// and the replay starts in the state that the exception stores hold if their images are known, or else with all
+/// snapshots fresh. Or it writes the bytes of a device's sectors, from the images that hold its disks, in the state
+/// that the exception stores hold.
 ///
 /// | Status | When |
 /// |---|---|
 /// | 0 | all was printed or written, or all requests were answered |
-/// | 1 | the source, its disks, the list of paths, the device, its sectors, a store or the name was refused; or a replay, since two claims meet; nothing was written or flushed, and no request was read |
-/// | 3 | a request was bad, or of no top device; those before it were answered |
-/// | 4 | reading requests failed; those before were answered |
+/// | 1 | the source, its disks, the list of paths, the device, its sectors, a store or the name was refused; or a replay, because two claims clash; nothing was written or flushed, and no request was read |
+/// | 3 | a request was bad, or for no top device; those before it were answered |
+/// | 4 | reading requests failed; those before the fault were answered |
 /// | 5 | writing or flushing the output failed |
 /// | 6 | memory ran out: nothing was written or flushed, or the requests before one were answered |
 /// | 7 | a sector can't be read; those before it were written |
 ///
 /// At most one message is written, after the output was flushed.
 ///
-/// Cost: that of the load, and linear in what is printed; for a replay and a read linear in the pairs of the stores,
-/// and that of `Replay::request` for each request, or of `write_sectors`. The memory of a replay grows with the ranges
-/// that are stored and with the requests; a read takes none once the load and the paths are done.
+/// Cost: that of the load, and linear in what is printed. A replay and a read are also linear in the exceptions of
+/// the stores, and cost as much as `Replay::request` for each request, or as `write_sectors`. The memory of a replay
+/// grows with the stored ranges and with the requests; a read allocates nothing once the load and the paths are done.
 pub fn other_whole<O: Opens, Q: Exchange<W>, W: Output, M: Output>(
     alloc: Global,
     job: &Job<'_>,
@@ -58,8 +58,8 @@ pub fn other_whole<O: Opens, Q: Exchange<W>, W: Output, M: Output>(
 ) -> u8
     requires other { is_other (job_words job.now) ≡ true }
 
-    // Whatever the images hold that agrees with all that was read of them: that, the words and what was delivered make
-    // one answer, unless memory runs out at a request. It is written, told and returned.
+    // For any contents of the images that agree with all reads of them: the contents, the words and what was
+    // delivered determine one answer, unless memory runs out at a request. It is written, reported and returned.
     ensures answers { (held : Contents) → O.IsSeen source.new held
         → Answers (JobAnswers (job_words job.now) (O.opens source.old source.new held)
         (O.starts source.old source.new held) (O.reads source.old source.new held))
@@ -72,15 +72,15 @@ pub fn other_whole<O: Opens, Q: Exchange<W>, W: Output, M: Output>(
         → (old new : O) (held : Contents) (starts : Description → Start)
         (reads : RangeWords → Description → Option Answer) (q : Delivery)
         → IsOne (JobAnswers (job_words job.now) (O.opens old new held) starts reads q) }
-    // The status says how the requests were read, and what came of the output and of the messages.
+    // The exit status says how the requests were read, and what became of the output and of the messages.
     ensures left { StreamsLeft result (moved Q.past requests.old requests.new)
         (moved W.past output.old output.new) (moved M.past messages.old messages.new) }
 
-    // Each input is only read on, and nothing is asked of it after an end or a fault.
+    // No input is read after its end or after a fault.
     ensures read { (source.new ≡ source.old) ⊎ O.IsRead source.old source.new }
-    // Only a replay reads requests.
+    // Only `replay` reads requests.
     ensures unasked { has_requests (job_words job.now) ≡ false → Q.past requests.new ≡ Q.past requests.old }
-    // Where memory ran out for a read, what is left alone then was.
+    // If memory ran out for `read`, what must then be untouched was untouched.
     ensures memory { is_reading (job_words job.now) ≡ true → result ≡ STATUS_MEMORY
         → O.IsLeft source.old source.new }
 {
@@ -88,7 +88,7 @@ pub fn other_whole<O: Opens, Q: Exchange<W>, W: Output, M: Output>(
     exit.finish(output, messages)
 }
 
-/// Does what a job asks for, and says how the command would exit. Nothing is flushed.
+/// Does what a job asks for, and returns how the command would exit. Doesn't flush the output.
 fn answer<O: Opens, Q: Exchange<W>, W: Output>(
     alloc: Global,
     job: Job<'_>,
@@ -125,7 +125,8 @@ fn answer<O: Opens, Q: Exchange<W>, W: Output>(
     }
 }
 
-/// Does what a job asks for with the devices that it loaded, and says how the command would exit. Nothing is flushed.
+/// Does what a job asks for over the stack that it loaded, and returns how the command would exit. Doesn't flush the
+/// output.
 fn answer_over<O: Opens, Q: Exchange<W>, W: Output>(
     alloc: Global,
     job: Job<'_>,
@@ -142,7 +143,7 @@ fn answer_over<O: Opens, Q: Exchange<W>, W: Output>(
         (written_since (W.past output.old) (W.past output.new)) result }
     ensures writes { HasWritten (W.past output.old) (W.past output.new) (failed_writes result) }
     ensures asked { AskedBy (Q.past requests.old) (Q.past requests.new) result }
-    // It opens what it opened.
+    // What the source opened at first is what it has still opened.
     ensures opened { (first : O) → O.HasOpened first source.old stack
         → ((held : Contents) → O.IsSeen source.old held → O.opens first source.old held (Loaded (SoundAs stack)))
         → (held : Contents) → O.IsSeen source.new held → O.opens first source.new held (Loaded (SoundAs stack)) }
@@ -156,19 +157,19 @@ fn answer_over<O: Opens, Q: Exchange<W>, W: Output>(
         Job::Print { form, .. } => print_stack(form, stack, output),
         Job::Check(_) => {
             let exit = print_report(alloc, &stack, output);
-            // The program ends soon, and the system takes memory back at once, all together.
+            // The program ends soon, and the system then frees all memory at once.
             forget(stack);
             exit
         }
         Job::Replay { .. } => {
             let exit = replay(alloc, &stack, source, requests, output);
-            // As for a check.
+            // The program ends soon, and the system then frees all memory at once.
             forget(stack);
             exit
         }
         Job::Read { range, .. } => {
             let exit = source.read_sectors(alloc, &stack, range, output);
-            // As for a check.
+            // The program ends soon, and the system then frees all memory at once.
             forget(stack);
             exit
         }
@@ -180,8 +181,8 @@ fn answer_over<O: Opens, Q: Exchange<W>, W: Output>(
     }
 }
 
-/// Replays requests on the disks of a stack that was opened, from the state that its stores hold, and says how the
-/// command would exit. Nothing is flushed.
+/// Replays requests on the disks of an opened stack, from the state that its exception stores hold, and returns how
+/// the command would exit. Doesn't flush the output.
 fn replay<O: Opens, Q: Exchange<W>, W: Output>(
     alloc: Global,
     stack: &Stack,

@@ -1,9 +1,8 @@
-//! A file of a load, which is opened at its first read and closed at its end.
+//! A file of a load, opened at its first read and closed at its end.
 //!
-//! So two pipes may be filled one after the other, and when requests are read, no file has the place
-//! of a standard input that is closed. A file that can't be opened is an input that fails at its first
-//! read, so that one refusal serves both; why it can't be opened is not told. Each read is one read of
-//! the file.
+//! So two pipes can be filled one after the other, and no file takes the descriptor of a closed standard input before
+//! requests are read. A file that can't be opened is an input that fails at its first read, so one refusal serves
+//! both, and the reason isn't reported. Each read is one read of the file.
 
 ghost use Rattle.dmremap.specs.Prelude.{IsErr, ReadConsumes};
 ghost use Rattle.std.specs.Io.{ReadsAtMost};
@@ -19,7 +18,7 @@ use std::io;
 use std::io::Read;
 use std::marker::PhantomData;
 
-/// A file of a load, by its path, and by what it is to the command, so that none stands for another.
+/// A file of a load, with its path and, as the type `P`, its part in the command, so that no file is taken for another.
 #[derive(Drop)]
 pub(crate) struct PartFile<'r, R: Files, P> {
     files: &'r R,
@@ -28,31 +27,31 @@ pub(crate) struct PartFile<'r, R: Files, P> {
     part: PhantomData<P>,
 }
 
-/// The part that is FILE.
+/// The part of FILE.
 pub(crate) struct SourcePart {}
 
-/// The part that is DISKS.
+/// The part of DISKS.
 pub(crate) struct DisksPart {}
 
-/// The part that is REQUESTS, those before a run.
+/// The part of the file that `--before` names.
 pub(crate) struct EarlierPart {}
 
-/// The part that is PATHS.
+/// The part of PATHS.
 pub(crate) struct PathsPart {}
 
 /// How far a file was read.
 #[derive(Drop)]
 pub(crate) enum Stage<F> {
-    /// Nothing was asked of it, or it could not be opened.
+    /// The file wasn't read yet, or can't be opened.
     Unopened,
-    /// It may have more.
+    /// The file is open, and may have more bytes.
     Open(F, Opened),
-    /// It was read to its end, and is closed.
+    /// The file was read to its end, and is closed.
     Ended(Opened),
 }
 
 impl<'r, R: Files, P> PartFile<'r, R, P> {
-    /// The file at this path, of which nothing is asked yet.
+    /// The file at this path, not opened yet.
     pub(crate) fn new(files: &'r R, path: &'r str) -> PartFile<'r, R, P> {
         PartFile {
             files,
@@ -68,10 +67,10 @@ impl<'r, R: Files, P> Read for PartFile<'r, R, P> {
 
     fn read(&mut self, buffer: &mut [u8]) -> io::Result<usize>
         ensures bound { ReadsAtMost result buffer.new }
-        // Where std knows the file's bytes, none is lost or made up.
+        // If std knows the file's bytes, a read neither loses nor invents any.
         ensures bytes { ReadConsumes (left_of R.File.remaining self.old.stage)
             (left_of R.File.remaining self.new.stage) result buffer.new }
-        // A file that can't be opened is not an empty one.
+        // A file that can't be opened is never read as an empty one.
         ensures unopened { self.new.stage ≡ Unopened → IsErr result }
     {
         if let Stage::Unopened = self.stage {

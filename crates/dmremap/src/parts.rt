@@ -1,5 +1,5 @@
-//! FILE, DISKS and PATHS as what opens a command: FILE and DISKS describe the devices, and PATHS, if it is there, says
-//! in which images the stores of their snapshots lie.
+//! FILE, DISKS and PATHS as what opens a command: FILE and DISKS describe the devices; PATHS, if given, says which
+//! images hold their disks, and so the exception stores of their snapshots.
 
 ghost use Rattle.dmremap.specs.Prelude.{delivery, delivered_if, delivery_if, PartsOpen, ArePartsOpened, ArePartsRead, places_in, range_answer, stored_start};
 ghost use Rattle.std.specs.Prelude.{◌≡◌};
@@ -16,7 +16,7 @@ use dm_store::Images;
 use dm_table::{Input, Output};
 use std::alloc::Global;
 
-/// The parts of a load, of which the disk list and the list of paths may be missing, and images.
+/// The parts of a load, and the images of disks. The disk list and the list of paths may be missing.
 #[derive(Drop)]
 pub struct Parts<S, D, P, I> {
     pub(crate) format: Format,

@@ -1,7 +1,7 @@
-//! How a run of `map` begins over its stack: with a mapper in some state, and the texts of the disks' names.
+//! How a run of `map` starts over its stack: with a mapper in some state, and the texts of the disks' names.
 //!
-//! All memory of a run is taken here, after the load and before a request is read. The state is that at the start
-//! of the stack or that of its stores, or what earlier requests left of it.
+//! All memory of a run is allocated here, after the load and before a request is read. The state is the fresh one or
+//! that of the exception stores, perhaps changed by earlier requests.
 
 ghost use Rattle.dmremap.specs.Prelude.{IfErr, IfOk, None, Some, IsErrAnd, start_state, CanMap, images_of, Contents, disk_contents, stored_state, IsOutOfMemory, IsReadOnIf, IsUnasked, delivered_if, AreImagesAsked, IsBegunAt, start_at, start_over, stored_start, ArePlayedIf, ArePlayedOver, Start, earlier_from, fresh_start};
 ghost use Rattle.dm_stream.specs.runs.Earlier.{HasPlayed};
@@ -18,14 +18,14 @@ use dm_table::{Input, LoadFault, Part};
 use std::alloc::{AllocError, Global};
 use std::mem::forget;
 
-/// A mapper of a stack, and the texts of the names of its disks.
+/// The mapper of a stack, and the texts of its disks' names.
 #[derive(Drop)]
 pub struct Prepared<'s> {
     pub mapper: Mapper<'s, TrieTaken>,
     pub texts: DiskTexts<'s>,
 }
 
-/// Begins from the start of a stack. It fails only when out of memory.
+/// Starts a run with all snapshots fresh. Fails only when out of memory.
 pub(crate) fn begin(alloc: Global, stack: &Stack) -> Result<Prepared<'_>, Refusal>
     ensures going { IfOk result (λ prepared. CanMap stack.now prepared.mapper) }
     ensures texts { IfOk result (λ prepared. prepared.texts ≡ stack.now) }
@@ -39,7 +39,7 @@ pub(crate) fn begin(alloc: Global, stack: &Stack) -> Result<Prepared<'_>, Refusa
     }
 }
 
-/// Plays earlier requests, if there are any, from where a run was begun.
+/// Plays earlier requests, if there are any, in a run that has started.
 pub(crate) fn after_earlier<'s, B: Input>(
     stack: &'s Stack,
     begun: Result<Prepared<'s>, Refusal>,
@@ -66,7 +66,7 @@ pub(crate) fn after_earlier<'s, B: Input>(
     }
 }
 
-/// Begins from what the stores of a stack hold in the images of a list.
+/// Starts a run in the state that the stack's exception stores hold in the images of a list.
 pub(crate) fn begin_in<'s, I: Images>(
     alloc: Global,
     stack: &'s Stack,
@@ -81,7 +81,7 @@ pub(crate) fn begin_in<'s, I: Images>(
     match listed_images(alloc, stack, &disks.paths) {
         Ok(places) => {
             let begun = begin_stored(alloc, stack, &places, &mut disks.images);
-            // As for `begin_by`.
+            // The program ends soon, and the system then frees all memory at once.
             forget(places);
             begun
         }
@@ -89,7 +89,8 @@ pub(crate) fn begin_in<'s, I: Images>(
     }
 }
 
-/// Begins from what the stores of a stack hold in the images of a list of paths, if there is one.
+/// Starts a run in the state that the stack's exception stores hold in the images of a list of paths, or with all
+/// snapshots fresh if there is no list.
 pub(crate) fn begin_by<'s, P: Input, I: Images>(
     alloc: Global,
     stack: &'s Stack,
@@ -109,7 +110,7 @@ pub(crate) fn begin_by<'s, P: Input, I: Images>(
         Some(paths) => match load_images(alloc, stack, paths) {
             Ok(places) => {
                 let begun = begin_stored(alloc, stack, &places, images);
-                // The program ends soon, and the system takes memory back at once, all together.
+                // The program ends soon, and the system then frees all memory at once.
                 forget(places);
                 begun
             }
@@ -119,7 +120,7 @@ pub(crate) fn begin_by<'s, P: Input, I: Images>(
     }
 }
 
-/// Begins from what the stores of a stack hold, where its disks lie in these places.
+/// Starts a run in the state that the stack's exception stores hold, if its disks lie at these places.
 pub(crate) fn begin_stored<'s, I: Images>(
     alloc: Global,
     stack: &'s Stack,
@@ -140,7 +141,7 @@ pub(crate) fn begin_stored<'s, I: Images>(
     }
 }
 
-/// Plays earlier requests, if there are any.
+/// Plays earlier requests, if there are any, in the mapper's state.
 fn play_if<'s, B: Input>(
     stack: &'s Stack,
     mapper: &mut Mapper<'s, TrieTaken>,
@@ -159,7 +160,7 @@ fn play_if<'s, B: Input>(
     }
 }
 
-/// Makes both. It fails only when out of memory.
+/// Makes the mapper and the texts of the disks' names. Fails only when out of memory.
 fn prepare(alloc: Global, stack: &Stack) -> Result<Prepared<'_>, AllocError>
     ensures going { IfOk result (λ prepared. CanMap stack.now prepared.mapper) }
     ensures state { IfOk result (λ prepared. prepared.mapper.state ≡ start_state stack.now) }

@@ -1,7 +1,8 @@
-//! What the commands print that read no requests: what a load gives, what a name says, or what is said of a word.
+//! What the commands print that read no requests: what a load gives, what a name says, or what the manual says of a
+//! word.
 //!
-//! Each writes its text and says how the command would exit; nothing is flushed here. What is printed
-//! is said in `specs/Printing.antt`.
+//! Each function writes its text and returns how the command would exit; nothing is flushed here.
+//! `specs/Printing.antt` defines what is printed.
 
 ghost use Rattle.dmremap.specs.Prelude.{option_map, built, Does, HasDone, Prints, ReportSays, SaidBy, SplitSays, line, name_said, written_as};
 ghost use Rattle.dm_table.specs.io.Progress.{Wrote};
@@ -16,7 +17,7 @@ use dm_table::{
 use lvm_volume::{NameFault, build_name, spaced_parts};
 use std::alloc::Global;
 
-/// Prints the devices of a stack in a form.
+/// Prints the devices of a stack in this form.
 pub(crate) fn print_stack<W: Output>(form: TableForm, stack: Stack, output: &mut W) -> Exit
     ensures { HasDone (Does (SaidBy (λ said. Prints (written_as form stack.devices) ≡ said)))
         (W.past output.old) (W.past output.new) result }
@@ -25,7 +26,7 @@ pub(crate) fn print_stack<W: Output>(form: TableForm, stack: Stack, output: &mut
     Exit::after(write_devices(form, &devices, output))
 }
 
-/// Writes devices in a form.
+/// Writes devices in this form.
 fn write_devices<W: Output>(
     form: TableForm,
     devices: &[DeviceSpec],
@@ -39,7 +40,7 @@ fn write_devices<W: Output>(
     }
 }
 
-/// Prints the report of a stack.
+/// Prints the report of a stack, as `check` does.
 pub(crate) fn print_report<W: Output>(alloc: Global, stack: &Stack, output: &mut W) -> Exit
     ensures { HasDone (Does (SaidBy (ReportSays stack.now))) (W.past output.old) (W.past output.new) result }
 {
@@ -49,7 +50,7 @@ pub(crate) fn print_report<W: Output>(alloc: Global, stack: &Stack, output: &mut
     }
 }
 
-/// Prints the name of a volume, or of a layer of it.
+/// Prints the device-mapper name of a logical volume, or of a layer of it.
 pub(crate) fn print_name<W: Output>(
     alloc: Global,
     vg: &str,
@@ -67,7 +68,7 @@ pub(crate) fn print_name<W: Output>(
     }
 }
 
-/// Prints the parts of the name of a volume.
+/// Prints the parts of a logical volume's device-mapper name.
 pub(crate) fn print_parts<W: Output>(alloc: Global, name: &str, output: &mut W) -> Exit
     ensures { HasDone (Does (SaidBy (SplitSays name.now))) (W.past output.old) (W.past output.new) result }
 {
@@ -86,7 +87,7 @@ pub(crate) fn print_text<W: Output>(text: &[u8], output: &mut W) -> Exit
     Exit::after(write_all(output, text))
 }
 
-/// Prints a line.
+/// Prints a text and a newline.
 fn print_line<W: Output>(text: &[u8], output: &mut W) -> Exit
     ensures { HasDone (Does (SaidBy (λ said. Prints (line text.now) ≡ said)))
         (W.past output.old) (W.past output.new) result }
@@ -94,7 +95,7 @@ fn print_line<W: Output>(text: &[u8], output: &mut W) -> Exit
     Exit::after(write_both(output, text, b"\n"))
 }
 
-/// Writes a text after another.
+/// Writes one text and then another.
 pub(crate) fn write_both<W: Output>(
     output: &mut W,
     first: &[u8],

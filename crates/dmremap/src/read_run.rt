@@ -1,6 +1,6 @@
-//! The bytes of sectors of a device of a stack that was opened, from the images in which its disks lie.
+//! The bytes of a device's sectors, for an opened stack, from the images that hold its disks.
 //!
-//! `specs/ReadWhole.antt` says what is answered, by where the disks of the stack lie and what images hold there.
+//! `specs/ReadWhole.antt` defines the answer, given where the disks lie and what images hold there.
 
 ghost use Rattle.dmremap.specs.Prelude.{IfErr, IfOk, IfSome, List, Ok, Option, Result, Some, InputPast, written_since, HasWritten, Contents, disk_contents, Place, Does, exit_status, failed_writes, range_words, AreSettled, IsExtentOf, count_in, extent_answer, extent_of, range_answer, written_exit, AskedBy};
 ghost use Rattle.dm_table.specs.declared.load.load_fault.LoadFault.{LoadFault};
@@ -18,7 +18,7 @@ use dm_table::{LoadFault, OutFault, Output};
 use std::alloc::Global;
 use std::mem::forget;
 
-/// Sectors of a device in a row.
+/// Consecutive sectors of a device.
 #[derive(Clone, Copy)]
 pub(crate) struct Extent {
     pub(crate) device: DeviceId,
@@ -26,7 +26,7 @@ pub(crate) struct Extent {
     pub(crate) len: u64,
 }
 
-/// How many sectors are asked for of a device that has so many in all, unless they go past its end.
+/// How many sectors to read from sector `from` of a device with `len` in all; None if they go past its end.
 fn count_in(from: u64, count: Option<u64>, len: u64) -> Option<u64>
     ensures is { result ≡ count_in from count len }
     ensures inside { IfSome result (λ count. from + count ≤ len) }
@@ -42,7 +42,7 @@ fn count_in(from: u64, count: Option<u64>, len: u64) -> Option<u64>
     Some(asked)
 }
 
-/// The extent of a stack that is asked for.
+/// The extent of a stack that a range asks for.
 fn extent_of(stack: &Stack, range: SectorRange<'_>) -> Result<Extent, Refusal>
     ensures is { result ≡ extent_of stack.now (range_words range.entry) }
     ensures inside { IfOk result (IsExtentOf stack.now) }
@@ -60,7 +60,7 @@ fn extent_of(stack: &Stack, range: SectorRange<'_>) -> Result<Extent, Refusal>
     }
 }
 
-/// The exit of a command that wrote sectors up to the first that has no bytes, if there is one.
+/// The exit of a command that wrote sectors, all of them or up to one that has no bytes, or whose write failed.
 fn written_exit(written: Result<Option<Stop>, OutFault>) -> Exit
     ensures { result ≡ written_exit written }
 {
@@ -71,8 +71,8 @@ fn written_exit(written: Result<Option<Stop>, OutFault>) -> Exit
     }
 }
 
-/// Writes the bytes of an extent of a stack whose disks lie in these places, in the state that its stores hold there,
-/// and says how the command would exit. Nothing is flushed.
+/// Writes the bytes of an extent of a stack, in the state that its exception stores hold, if its disks lie at these
+/// places. Returns how the command would exit, and doesn't flush the output.
 fn read_extent<I: Images, W: Output>(
     alloc: Global,
     stack: &Stack,
@@ -104,8 +104,8 @@ fn read_extent<I: Images, W: Output>(
     }
 }
 
-/// Writes the bytes of sectors of a device of a stack whose disks lie in these places, and says how the command would
-/// exit. Nothing is flushed.
+/// Writes the bytes of a range of a device's sectors, if the stack's disks lie at these places, and returns how the
+/// command would exit. Doesn't flush the output.
 pub(crate) fn read_range<I: Images, W: Output>(
     alloc: Global,
     stack: &Stack,
@@ -128,7 +128,7 @@ pub(crate) fn read_range<I: Images, W: Output>(
         Ok(places) => match extent_of(stack, range) {
             Ok(extent) => {
                 let exit = read_extent(alloc, stack, extent, &places, images, output);
-                // The program ends soon, and the system takes memory back at once, all together.
+                // The program ends soon, and the system then frees all memory at once.
                 forget(places);
                 exit
             }

@@ -1,6 +1,6 @@
-//! Replaying requests on the disks of a stack: the handler of a replay, and the run of its lines.
+//! Replays requests on the disks of a stack: the handler of a replay, and its run over request lines.
 //!
-//! `specs/ReplayOutcome.antt` says what is written for the requests, and what one request adds to it.
+//! `specs/ReplayOutcome.antt` defines what is written for all requests, and what one request adds to it.
 
 ghost use Rattle.dmremap.specs.Prelude.{false, refl, ◌∙◌, delivery, written_since, HasWrittenTo, IsReadOn, written_to_none, written_to_more, requests_of, replay_from, Does, HasDone, failed_writes, CanMap, ReplaysStack, HasPlayed, HasStopped, IsPlayed, AskedBy, HasMetBy};
 ghost use Rattle.dmremap.specs.laws.Played.{played_none, played_more, stopped_more};
@@ -15,12 +15,12 @@ use dm_table::{InFault, LoadFault, OutFault, Output, Part, Request};
 use std::alloc::Global;
 use std::marker::PhantomData;
 
-/// Plays requests, and writes what their sectors answer.
+/// Plays requests, and writes what their sectors answer to an output.
 #[derive(Drop)]
 struct RequestPlayer<'m, 's, W> {
     alloc: Global,
     output: &'m mut W,
-    /// The stack of the replay that the answers come from.
+    /// The replayed stack, whose lifetime the answers share.
     stack: PhantomData<&'s Stack>,
 }
 
@@ -99,7 +99,7 @@ impl<W: Output, Q: Exchange<W>> HandlesFrom<Q> for RequestPlayer<'_, '_, W> {
     }
 }
 
-/// Plays requests to an output, up to the first bad one, an end or a fault. Nothing is flushed.
+/// Plays requests and writes their answers, up to the first bad request, the end or a fault. Doesn't flush the output.
 fn play_requests<'s, Q: Exchange<W>, W: Output>(
     alloc: Global,
     stack: &Stack,
@@ -130,8 +130,8 @@ fn play_requests<'s, Q: Exchange<W>, W: Output>(
     }
 }
 
-/// Replays requests on the disks of a stack from the state of a mapper, and says how the command would exit. Nothing is
-/// flushed.
+/// Replays requests on the disks of a stack, starting in the state of a mapper, and returns how the command would
+/// exit. Doesn't flush the output.
 pub(crate) fn replay_stack<'s, Q: Exchange<W>, W: Output>(
     alloc: Global,
     stack: &'s Stack,

@@ -1,19 +1,19 @@
-//! The exit statuses. Their numbers stand here and nowhere else.
+//! The exit statuses. Their numbers are defined only here.
 
-/// All was done, or help or the version was asked for.
+/// The command did all that was asked, which may be printing help or the version.
 pub const STATUS_DONE: u8 = 0;
 
-/// The source, the disk list, the list of paths, a store, earlier requests or a name was refused, or `replay`
-/// refused an untidy stack; nothing was written.
+/// A source, disk list, list of paths, exception store, earlier request or name was refused, or `replay` refused an
+/// untidy stack; nothing was written.
 pub const STATUS_REFUSED: u8 = 1;
 
 /// The command line was wrong.
 pub const STATUS_WORDS: u8 = 2;
 
-/// A request was refused; those before it were answered.
+/// A request was bad; those before it were answered.
 pub const STATUS_BAD_REQUEST: u8 = 3;
 
-/// Reading requests failed; those before were answered.
+/// Reading requests failed; those before the fault were answered.
 pub const STATUS_READ_FAULT: u8 = 4;
 
 /// Writing or flushing the output failed.

@@ -1,8 +1,8 @@
 //! The words of the command line, as clap's builder reads them.
 //!
-//! The command line is made one word at a time, by functions that hold nothing else where memory runs out.
-//! A new command is a line in `program` and one in `job_in` or, if it loads a source, in `loading_job`. A new
-//! format is a word of `FORMATS` and of `format_named`. Images, which are no text, are asked for in `source_in`.
+//! The command line is built one word at a time, by functions that hold nothing else when memory runs out. A new
+//! command is a line in `program` and one in `job_in` or, if it loads a source, in `loading_job`. A new format is a
+//! word of `FORMATS` and of `format_named`. `images`, which is no text format, is handled in `source_in`.
 
 ghost use Rattle.dmremap.specs.Prelude.{[], IfErr, IfOk, List, codes, false, option_map, true, job_words, range_words, source_words, HasApp, TakeFormats, TakesNames, bare_app, before_rule, command_line, flag_rule, format_named, format_rule, formats, loading_app, map_app, metadata_app, name_app, optional_rule, paths_rule, read_app, replay_app, required_rule, sectors_rule, split_app, version_rule, files_at, has_flag, has_lone_hyphen, images_at, job_in, last_of, loading_job, name_job, number_at, number_of, range_at, range_job, read_from, read_job, said_by, source_in, source_job, word_of, IsCommandOf, IsFaultOf, IsJobOf, IsOfKind, IsRefusedFor, IsTaken, IsUntaken, asked_word, fault_from, is_command, is_unknown, status_of};
 ghost use Rattle.clap.specs.Walk.{texts};
@@ -26,13 +26,14 @@ use std::alloc::{AllocError, Global};
 use std::io;
 use thiserror::Error;
 
-/// Why words give no job.
+/// Why words ask for no job.
 #[derive(Debug, Drop, Error)]
 pub enum WordsFault {
-    /// clap refuses the words, or was asked for its help or the version; the text is clap's.
+    /// clap refuses the words, or was asked for help or the version; the text is clap's.
     #[error("{0}")]
     Words(clap::Error),
-    /// DISKS is missing though the format asks for it, or is there though it doesn't, as is another list beside images.
+    /// DISKS or `--paths` is missing though the format needs it, or is given though the format has none; or DEVICE is
+    /// missing.
     #[error("dmremap: words: disks")]
     Disks,
     /// Memory ran out.
@@ -49,16 +50,16 @@ const FORMATS: &[&str] = &["lvm", "concise", "table", "images"];
 
 const IMAGES: &[&str] = &["images"];
 
-// ---- what clap found, and the job that this gives
+// ---- from clap's matches to a job
 
-/// The text of a word, if it was given.
+/// The text of a word; None if it wasn't given.
 fn text_of<'a>(found: &ArgMatches<'a>, id: &str) -> Option<&'a str>
     ensures { option_map (λ text. text.now) result ≡ first_of id.now (rows_of (found_of found.now)) }
 {
     found.get_str(id)
 }
 
-/// The text of a word that clap asks for, which takes no words without it.
+/// The text of a required word, which clap never leaves out.
 fn word_of<'a>(found: &ArgMatches<'a>, id: &str) -> &'a str
     ensures { result.now ≡ word_of id.now (rows_of (found_of found.now)) }
 {
@@ -68,7 +69,7 @@ fn word_of<'a>(found: &ArgMatches<'a>, id: &str) -> &'a str
     }
 }
 
-/// Whether a flag was given.
+/// Whether the flag was given.
 fn has_flag(found: &ArgMatches<'_>, id: &str) -> bool
     ensures { result ≡ has_flag id.now (rows_of (found_of found.now)) }
 {
@@ -78,7 +79,7 @@ fn has_flag(found: &ArgMatches<'_>, id: &str) -> bool
     }
 }
 
-/// The format that a word of `FORMATS` names, other than that of images.
+/// The format that a word of `FORMATS` names, unless the word is `images`.
 fn format_named(word: &str) -> Format
     ensures { result ≡ format_named word.now }
 {
@@ -89,7 +90,7 @@ fn format_named(word: &str) -> Format
     }
 }
 
-/// The files of a format, unless its list of disks is missing or too much.
+/// The source of these files; None if the format needs DISKS and there is none, or has no DISKS and one is given.
 fn files_at<'a>(format: Format, file: &'a str, disks: Option<&'a str>) -> Option<Source<'a>>
     ensures { option_map source_words result
         ≡ files_at format file.entry.now (option_map (λ d. d.now) disks.entry) }
@@ -104,7 +105,7 @@ fn files_at<'a>(format: Format, file: &'a str, disks: Option<&'a str>) -> Option
     }
 }
 
-/// The list of images, unless there is a list of disks too, or another list of paths.
+/// The source of a list of images; None if DISKS or `--paths` is given, too.
 fn images_at<'a>(
     list: &'a str,
     disks: Option<&'a str>,
@@ -119,7 +120,7 @@ fn images_at<'a>(
     }
 }
 
-/// The source that the words of a command say.
+/// The source that a command's words name; None if DISKS or `--paths` doesn't fit FORMAT.
 fn source_in<'a>(found: &ArgMatches<'a>, disks: Option<&'a str>) -> Option<Source<'a>>
     ensures { option_map source_words result
         ≡ source_in (rows_of (found_of found.now)) (option_map (λ d. d.now) disks.entry) }
@@ -160,7 +161,7 @@ fn loading_job<'a>(command: &str, found: &ArgMatches<'a>, source: Source<'a>) ->
     }
 }
 
-/// The job of a command that loads something, unless DISKS is missing or too much, or another list beside images.
+/// The job of a command that loads a source; None if DISKS or `--paths` doesn't fit FORMAT.
 fn source_job<'a>(command: &str, found: &ArgMatches<'a>) -> Option<Job<'a>>
     ensures { option_map job_words result ≡ source_job command.now (rows_of (found_of found.now)) }
 {
@@ -170,7 +171,7 @@ fn source_job<'a>(command: &str, found: &ArgMatches<'a>) -> Option<Job<'a>>
     }
 }
 
-/// The number that a text spells; clap takes no text that spells none.
+/// The number that a text spells; clap accepts no other text.
 fn number_of(text: &str) -> Option<u64>
     ensures { result ≡ number_of text.now }
 {
@@ -180,7 +181,7 @@ fn number_of(text: &str) -> Option<u64>
     }
 }
 
-/// The number of an option, if it was given.
+/// The number of an option; None if the option wasn't given.
 fn number_at(found: &ArgMatches<'_>, id: &str) -> Option<u64>
     ensures { result ≡ number_at id.now (rows_of (found_of found.now)) }
 {
@@ -190,7 +191,7 @@ fn number_at(found: &ArgMatches<'_>, id: &str) -> Option<u64>
     }
 }
 
-/// The sectors of a device that the words ask for.
+/// The range of a device's sectors that the words ask for, by default from sector 0 and up to the end.
 fn range_at<'a>(found: &ArgMatches<'a>, device: &'a str) -> SectorRange<'a>
     ensures { range_words result ≡ range_at (rows_of (found_of found.now)) device.entry.now }
 {
@@ -201,7 +202,7 @@ fn range_at<'a>(found: &ArgMatches<'a>, device: &'a str) -> SectorRange<'a>
     }
 }
 
-/// DISKS and DEVICE, which is the last of two words.
+/// DISKS and DEVICE, of two optional words: DEVICE is the last one given.
 fn last_of<'a>(
     second: Option<&'a str>,
     third: Option<&'a str>,
@@ -215,7 +216,7 @@ fn last_of<'a>(
     }
 }
 
-/// The job of `read` of a source, unless it is of files without a list of paths.
+/// The job of `read` from a source; None if the source is files and there is no `--paths`.
 fn read_from<'a>(
     source: Source<'a>,
     paths: Option<&'a str>,
@@ -234,7 +235,7 @@ fn read_from<'a>(
     }
 }
 
-/// The job of `read` of these sectors, unless a list of disks or of paths is missing or too much.
+/// The job of `read` for this range; None if DISKS or `--paths` is missing or doesn't fit FORMAT.
 fn range_job<'a>(
     found: &ArgMatches<'a>,
     disks: Option<&'a str>,
@@ -249,7 +250,7 @@ fn range_job<'a>(
     }
 }
 
-/// The job of `read`, unless a word is missing or too much.
+/// The job of `read`; None if a word is missing or doesn't fit.
 fn read_job<'a>(found: &ArgMatches<'a>) -> Option<Job<'a>>
     ensures { option_map job_words result ≡ read_job (rows_of (found_of found.now)) }
 {
@@ -271,7 +272,7 @@ fn name_job<'a>(found: &ArgMatches<'a>) -> Job<'a>
     }
 }
 
-/// The job of a command with these words, unless DISKS is missing or too much, or another list beside images.
+/// The job of a command with these words; None if DISKS or `--paths` is missing or doesn't fit.
 fn job_in<'a>(command: &str, found: &ArgMatches<'a>) -> Option<Job<'a>>
     ensures { option_map job_words result ≡ job_in command.now (rows_of (found_of found.now)) }
 {
@@ -284,7 +285,7 @@ fn job_in<'a>(command: &str, found: &ArgMatches<'a>) -> Option<Job<'a>>
     }
 }
 
-/// The job of the command that clap met, which takes no words without one.
+/// The job of the subcommand that clap found; clap accepts no words without one.
 fn said_by<'a>(matches: &ArgMatches<'a>) -> Option<Job<'a>>
     ensures { option_map job_words result ≡ said_by (subcommand_rows_of matches.now) }
 {
@@ -297,7 +298,8 @@ fn said_by<'a>(matches: &ArgMatches<'a>) -> Option<Job<'a>>
 // ---- faults
 
 impl WordsFault {
-    /// The exit status: that of refused words, or of all done where help or the version was asked for.
+    /// The exit status of the fault: done if help or the version was asked for, or else that of bad words or of
+    /// running out of memory.
     pub fn status(&self) -> u8
         ensures { result ≡ status_of self.now }
     {
@@ -314,7 +316,7 @@ impl WordsFault {
         }
     }
 
-    /// Whether a command is unknown.
+    /// Whether the fault is an unknown command.
     fn is_unknown(&self) -> bool
         ensures { result ≡ is_unknown self.now }
     {
@@ -327,8 +329,8 @@ impl WordsFault {
         }
     }
 
-    /// Prints help or the version, if that was asked for, to the standard output, and all else to the
-    /// standard error.
+    /// Prints help or the version to the standard output, if that was asked for, and anything else to the standard
+    /// error.
     pub fn print<R: Print + Eprint>(&self, rt: &R) -> io::Result<()> {
         match self {
             WordsFault::Words(error) => error.print(rt),
@@ -358,21 +360,21 @@ impl From<AllocError> for WordsFault {
 
 // ---- the command line
 
-/// The words that FORMAT may be.
+/// The parser of FORMAT for commands that accept every format.
 fn format_parser<'a>() -> ValueParser<'a>
     ensures { TakesNames formats result }
 {
     ValueParser::Names(FORMATS)
 }
 
-/// The word that FORMAT is of a command that takes images alone.
+/// The parser of FORMAT for `metadata`, which accepts only `images`.
 fn images_parser<'a>() -> ValueParser<'a>
     ensures { TakesNames (codes "images" ∷ []) result }
 {
     ValueParser::Names(IMAGES)
 }
 
-/// A word that has to be there.
+/// A required argument.
 fn required<'a>(alloc: Global, id: &'a str, value_name: &'a str, help: &'a str) -> Arg<'a>
     ensures rule { rule_of result ≡ required_rule id.entry.now }
     ensures local { result.global ≡ false }
@@ -383,7 +385,7 @@ fn required<'a>(alloc: Global, id: &'a str, value_name: &'a str, help: &'a str) 
         .required(true)
 }
 
-/// A word that may be left out.
+/// An optional argument.
 fn optional<'a>(alloc: Global, id: &'a str, value_name: &'a str, help: &'a str) -> Arg<'a>
     ensures rule { rule_of result ≡ optional_rule id.entry.now }
     ensures local { result.global ≡ false }
@@ -391,7 +393,7 @@ fn optional<'a>(alloc: Global, id: &'a str, value_name: &'a str, help: &'a str) 
     Arg::new(alloc, id).value_name(value_name).help(help)
 }
 
-/// FORMAT, with the parser of its words.
+/// FORMAT: a required argument that must be one of the parser's words.
 fn format_argument<'a>(alloc: Global, parser: ValueParser<'a>) -> Arg<'a>
     ensures rule { rule_of result ≡ format_rule parser.entry }
     ensures local { result.global ≡ false }
@@ -399,7 +401,7 @@ fn format_argument<'a>(alloc: Global, parser: ValueParser<'a>) -> Arg<'a>
     required(alloc, "format", "FORMAT", help::FORMAT_HELP).value_parser(parser)
 }
 
-/// A flag, which may stand once.
+/// A flag `--ID`, given at most once.
 fn flag<'a>(alloc: Global, id: &'a str, action: ArgAction, help: &'a str) -> Arg<'a>
     ensures rule { rule_of result ≡ flag_rule id.entry.now action }
     ensures local { result.global ≡ false }
@@ -407,7 +409,7 @@ fn flag<'a>(alloc: Global, id: &'a str, action: ArgAction, help: &'a str) -> Arg
     Arg::new(alloc, id).long(id).action(action).help(help)
 }
 
-/// The option that names a file of earlier requests.
+/// The option `--before` for a file of earlier requests.
 fn before_option<'a>(alloc: Global) -> Arg<'a>
     ensures rule { rule_of result ≡ before_rule }
     ensures local { result.global ≡ false }
@@ -415,7 +417,7 @@ fn before_option<'a>(alloc: Global) -> Arg<'a>
     optional(alloc, "before", "REQUESTS", help::BEFORE_HELP).long("before")
 }
 
-/// The option that names a list of paths.
+/// The option `--paths` for a list of paths.
 fn paths_option<'a>(alloc: Global) -> Arg<'a>
     ensures rule { rule_of result ≡ paths_rule }
     ensures local { result.global ≡ false }
@@ -423,7 +425,7 @@ fn paths_option<'a>(alloc: Global) -> Arg<'a>
     optional(alloc, "paths", "PATHS", help::PATHS_HELP).long("paths")
 }
 
-/// An option that has a number of sectors.
+/// An option `--ID` for a number of sectors.
 fn sectors_option<'a>(alloc: Global, id: &'a str, value_name: &'a str, help: &'a str) -> Arg<'a>
     ensures rule { rule_of result ≡ sectors_rule id.entry.now }
     ensures local { result.global ≡ false }
@@ -433,14 +435,14 @@ fn sectors_option<'a>(alloc: Global, id: &'a str, value_name: &'a str, help: &'a
         .value_parser(ValueParser::unsigned(0, u64::MAX))
 }
 
-/// A command with what its help says, and without words.
+/// A command with its help texts, and without arguments.
 fn titled<'a>(alloc: Global, name: &'a str, about: &'a str, notes: &'a str) -> Command<'a>
     ensures { app_of result ≡ new_app name.entry.now }
 {
     Command::new(alloc, name).about(about).after_help(notes)
 }
 
-/// A command with one more word, if there was memory for it.
+/// Adds an argument to a command, unless memory ran out.
 fn with_word<'a>(
     command: Result<Command<'a>, AllocError>,
     word: Arg<'a>,
@@ -452,7 +454,7 @@ fn with_word<'a>(
     command?.arg(word)
 }
 
-/// A command whose help shows this usage, if there was memory for the command.
+/// Sets the usage line that the command's help shows, unless memory ran out.
 fn with_usage<'a>(
     command: Result<Command<'a>, AllocError>,
     usage: &'a str,
@@ -462,7 +464,7 @@ fn with_usage<'a>(
     Ok(command?.override_usage(usage))
 }
 
-/// The command line with one more command, if there was memory for both.
+/// Adds a subcommand to the command line, unless memory ran out.
 fn with_command<'a>(
     line: Result<Command<'a>, AllocError>,
     command: Result<Command<'a>, AllocError>,
@@ -473,7 +475,7 @@ fn with_command<'a>(
     line?.subcommand(command?)
 }
 
-/// A command that loads a source: `NAME FORMAT FILE [DISKS]`.
+/// A command that loads a source, `NAME FORMAT FILE [DISKS]`.
 fn loading_command<'a>(
     alloc: Global,
     parser: ValueParser<'a>,
@@ -567,7 +569,7 @@ fn split_command<'a>(alloc: Global) -> Result<Command<'a>, AllocError>
     with_word(command, required(alloc, "name", "NAME", help::NAME_HELP))
 }
 
-/// The program without words.
+/// The program with its help texts and version, without commands and flags.
 fn bare_program<'a>(alloc: Global) -> Command<'a>
     ensures { app_of result ≡ bare_app }
 {
@@ -578,7 +580,7 @@ fn bare_program<'a>(alloc: Global) -> Command<'a>
         .disable_version_flag(true)
 }
 
-/// The program without commands. The flag that asks for the version has no short form, unlike clap's own.
+/// The program with its version flag, without commands. Unlike clap's own version flag, it has no short form.
 fn program_alone<'a>(alloc: Global) -> Result<Command<'a>, AllocError>
     ensures { HasApp (with_rule bare_app version_rule) result }
 {
@@ -586,7 +588,7 @@ fn program_alone<'a>(alloc: Global) -> Result<Command<'a>, AllocError>
     with_word(Ok(bare_program(alloc)), version)
 }
 
-/// The whole command line.
+/// The whole command line: the program with all of its commands.
 fn program<'a>(alloc: Global) -> Result<Command<'a>, AllocError>
     ensures { (parsers : _) × TakeFormats parsers × HasApp (command_line parsers) result }
 {
@@ -620,14 +622,14 @@ fn program<'a>(alloc: Global) -> Result<Command<'a>, AllocError>
 
 // ---- words
 
-/// The fault where an argument isn't UTF-8, so that there are no words to read.
+/// The fault for an argument that isn't UTF-8, so that there are no words to read.
 pub fn not_text(alloc: Global) -> WordsFault
     ensures { IsOfKind kind.InvalidValue result }
 {
     refusal(alloc, ErrorKind::InvalidValue, NOT_TEXT)
 }
 
-/// A refusal by the program itself, in clap's form.
+/// A refusal by the program itself, in the form of clap's errors.
 fn refusal(alloc: Global, kind: ErrorKind, text: &str) -> WordsFault
     ensures { IsOfKind kind result }
 {
@@ -637,7 +639,7 @@ fn refusal(alloc: Global, kind: ErrorKind, text: &str) -> WordsFault
     }
 }
 
-/// The refusal of a word that `help` doesn't know, with those of messages.
+/// The refusal of a word that `help` doesn't know; its text lists the words that `help` knows.
 fn unknown_word(alloc: Global, word: &str) -> WordsFault
     ensures { IsOfKind kind.InvalidSubcommand result }
 {
@@ -649,7 +651,7 @@ fn unknown_word(alloc: Global, word: &str) -> WordsFault
     }
 }
 
-/// A fault of words, with the words of messages where `help` is asked about what it doesn't know.
+/// The fault of refused words; if they are `help` with an unknown word, the fault lists the words that `help` knows.
 fn with_words_listed(alloc: Global, words: &[&str], fault: WordsFault) -> WordsFault
     ensures { (texts : List Text) → IsUntaken texts fault → IsUntaken texts result }
 {
@@ -659,14 +661,14 @@ fn with_words_listed(alloc: Global, words: &[&str], fault: WordsFault) -> WordsF
     }
 }
 
-/// The error of clap that has this kind and this text.
+/// An error of clap's with this kind and this text.
 fn refusal_error(alloc: Global, kind: ErrorKind, text: &str) -> Result<clap::Error, AllocError>
     ensures { IfOk result (λ error. kind_of error ≡ kind) }
 {
     program(alloc)?.error(kind, text)
 }
 
-/// Whether a word after the program's name is a hyphen alone, before the first `--`.
+/// Whether one of the words after the program's name, before the first `--`, is a lone hyphen.
 fn has_lone_hyphen(words: &[&str]) -> bool
     ensures { result ≡ has_lone_hyphen (texts words.now) }
 {
@@ -684,7 +686,7 @@ fn has_lone_hyphen(words: &[&str]) -> bool
     false
 }
 
-/// What the words say that clap takes.
+/// The job that words ask for if clap accepts them; None if DISKS or `--paths` doesn't fit.
 fn read_taken<'a>(alloc: Global, words: &'a [&'a str]) -> Result<Option<Job<'a>>, WordsFault>
     ensures taken { IfOk result (λ said. IsTaken (texts words.now) (option_map job_words said)) }
     ensures untaken { IfErr result (IsUntaken (texts words.now)) }
@@ -708,14 +710,14 @@ fn read_command<'a>(alloc: Global, words: &'a [&'a str]) -> Result<Job<'a>, Word
     }
 }
 
-/// Whether a word of messages is a command, too.
+/// Whether a word of messages is also the name of a command.
 fn is_command(word: &str) -> bool
     ensures { result ≡ is_command word.now }
 {
     word == "name" || word == "read"
 }
 
-/// The word of messages that `help` is asked about, if anything is said of it.
+/// The word that `help WORD` is to explain, if it is no command and has an explanation.
 fn asked_word<'a>(words: &'a [&'a str]) -> Option<&'a str>
     ensures { option_map (λ word. word.now) result ≡ asked_word (texts words.now) }
 {
@@ -727,14 +729,11 @@ fn asked_word<'a>(words: &'a [&'a str]) -> Option<&'a str>
     }
 }
 
-/// The job that the words ask for, of which the first is the program's name. No file is opened.
-/// `help` with a word of messages is a job; with a command, as other requests for help or the version, it is
-/// a refusal with that as its text, and no words at all are one with the help.
-/// A hyphen alone, which clap would take as a value, is refused before the first `--`, whatever
-/// else the words are. DISKS that is missing, or not needed, is reported only where clap accepts the
-/// words.
-/// The command line is built anew at each call, and once more for a refusal of the program's own; the words
-/// are walked twice.
+/// The job that the words ask for; the first word is the program's name. No file is opened. `help` with a word of
+/// messages is a job. `help` with a command and other requests for help or the version are faults with that text, and
+/// so is no word at all. A lone hyphen, which clap would accept as a value, is refused before the first `--`, whatever
+/// the other words are. DISKS that is missing or not needed is reported only if clap accepts the words. The command
+/// line is built anew at each call, and once more for a refusal of the program's own; the words are scanned twice.
 pub fn read_words<'a>(alloc: Global, words: &'a [&'a str]) -> Result<Job<'a>, WordsFault>
     ensures job { IfOk result (IsJobOf (texts words.now)) }
     ensures fault { IfErr result (IsFaultOf (texts words.now)) }

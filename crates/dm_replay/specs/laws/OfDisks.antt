@@ -1,4 +1,4 @@
--- Units on a stack's disks, in two parts. It is here because a sink's impl cites it.
+-- Units on a stack's disks, in two parts. The law is here because a sink's `impl` cites it.
 use Rattle.dm_replay.specs.Base.{ℕ, List, [], BlockUnit}
 use Rattle.dm_replay.specs.OfDisks.{AreUnitsOf}
 use Rattle.std.specs.Prelude.{◌∷◌, ◌++◌}

@@ -1,4 +1,4 @@
--- Laws of play: in parts, and on values that are the same. They are here because a sink's impl cites them.
+-- Laws of play: in parts, and on equal values. They are here because a sink's `impl` cites them.
 use Rattle.dm_replay.specs.Base.{ℕ, List, [], append_assoc, refl, sym, ap, ◌∙◌, append-nil, sector_after, sector_past, BlockUnit, ReadOf, past-append, unit_cong, Value}
 use Rattle.dm_map.specs.own.Contents.{played as contents_played}
 use Rattle.dm_map.specs.laws.Contents.{played_cong as values_cong}
@@ -10,7 +10,7 @@ use Rattle.dm_replay.specs.Runs.{flat}
 use Rattle.dm_replay.specs.Values.{Answer, Gives, Values, played_unit, unit_answers, played, played_answers}
 use Rattle.std.specs.Prelude.{◌≡◌, ◌∷◌, ◌++◌}
 
--- values that are the same, sector by sector
+-- the values are equal in every sector
 abbrev pub AreSame : Values → Values → Type 0
 AreSame values others = (disk sector : ℕ) → values disk sector ≡ others disk sector
 
@@ -43,7 +43,7 @@ answers-append request sector (unit ∷ units) more values =
     ap (λ (later : List Answer). unit_answers request sector unit values ++ later) (answers-append request (sector_after unit sector) units more rest)
     ∙ sym (append_assoc (unit_answers request sector unit values) (played_answers request (sector_after unit sector) units rest) (played_answers request (sector_past units (sector_after unit sector)) more (played request (sector_after unit sector) units rest)))
 
--- a player that plays nothing, and one that goes on
+-- a player that plays nothing; below, one that plays units and then more of them
 
 pub played_nothing : (a : Playing) → HasPlayed a [] a
 unfolding contents_played played_answers sector_past

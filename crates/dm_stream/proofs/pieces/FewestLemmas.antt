@@ -1,9 +1,9 @@
--- The fewest pieces are pieces of their units and apart, no other pieces are, and none are fewer.
+-- `fewest` gives pieces that cover the units without one continuing another; no other pieces do that, and no others are fewer.
 use Rattle.dm_stream.proofs.Prelude.{ℕ, zero, suc, Bool, true, false, cond, List, [], length, refl, sym, ap, ◌∙◌, arith, flat_map, AllByRecursion, append-nil, BlockUnit, next_unit, units_in, onto_begins, UnitRun, piece_units, joins, is_after, onto, fewest, ArePiecesOf, NoneContinues, AreFewest}
 use Rattle.dm_stream.proofs.pieces.PieceLemmas.{joins-next, joined_next, is_after-one, is_after-more, onto-joined, fewest-apart, fewest-run}
 use Rattle.std.specs.Prelude.{◌≡◌, ◌<◌, ◌≤◌, ◌∷◌, ◌++◌}
 
--- a unit before pieces: the units, the lengths and the number of the pieces that come of it
+-- what putting a unit in front of pieces does to their units, their lengths and their number
 record AddsUnit (unit : BlockUnit) (old new : List UnitRun) : Type 0 where
   flatten : flat_map piece_units new ≡ unit ∷ flat_map piece_units old
   each : AllByRecursion (λ piece. 0 < piece.len) old → AllByRecursion (λ piece. 0 < piece.len) new
@@ -13,7 +13,7 @@ record AddsUnit (unit : BlockUnit) (old new : List UnitRun) : Type 0 where
 some_len : (len : ℕ) → 0 < suc len
 some_len len = omega arith
 
--- pieces stay apart where the first of them is lengthened at its front
+-- if no piece continues the one before it, none does after the first is lengthened at its front
 apart-longer : (unit first : BlockUnit) (len : ℕ) (pieces : List UnitRun) → first ≡ next_unit unit → NoneContinues (record { first = first; len = len } ∷ pieces) → NoneContinues (record { first = unit; len = suc len } ∷ pieces)
 apart-longer unit first len [] e h = tt
 apart-longer unit first len (next ∷ pieces) e h = (cc (is_after-more unit len next.first), h.1)
@@ -34,7 +34,7 @@ onto_adds unit (piece ∷ pieces) =
       | false ↦ λ e. record { flatten = refl; each = λ h. (some_len 0, h); apart = λ h. (is_after-one unit piece.first ∙ e, h); most = omega arith }
     ]) refl
 
--- the fewest pieces are pieces of their units, and apart
+-- `fewest` gives pieces that cover the units, and none continues the one before it
 fewest_are : (units : List BlockUnit) → ArePiecesOf units (fewest units)
 fewest_are [] = record { flatten = refl; each = tt }
 fewest_are (unit ∷ units) =
@@ -46,7 +46,7 @@ fewest_apart : (units : List BlockUnit) → NoneContinues (fewest units)
 fewest_apart [] = tt
 fewest_apart (unit ∷ units) = (onto_adds unit (fewest units)).apart (fewest_apart units)
 
--- one piece before others of which the first does not go on from it
+-- a piece followed by units whose first piece doesn't continue it is the first of the fewest pieces
 fewest-before : (first : BlockUnit) (len : ℕ) (next : UnitRun) (rest : List BlockUnit) (pieces : List UnitRun) → 0 < len → 0 < next.len → is_after first len next.first ≡ false → fewest (piece_units next ++ rest) ≡ pieces → fewest (units_in first len ++ (piece_units next ++ rest)) ≡ record { first = first; len = len } ∷ pieces
 fewest-before first zero next rest pieces some next_some apart e = absurd (omega (arith, some))
 fewest-before first (suc len) next rest pieces some next_some apart e =
@@ -56,7 +56,7 @@ fewest-before first (suc len) next rest pieces some next_some apart e =
       | suc n ↦ λ one f. cc (fewest-apart first len next.first (units_in (next_unit next.first) n ++ rest) apart)
     ]) next_some e
 
--- pieces that are apart are the fewest of their units
+-- pieces of which none continues the one before it are the fewest for their units
 fewest_only : (pieces : List UnitRun) → AllByRecursion (λ piece. 0 < piece.len) pieces → NoneContinues pieces → fewest (flat_map piece_units pieces) ≡ pieces
 fewest_only [] some apart = refl
 fewest_only (piece ∷ []) some apart =
@@ -68,7 +68,7 @@ fewest_only (piece ∷ next ∷ pieces) some apart =
 fewest_only_of : (units : List BlockUnit) (pieces : List UnitRun) → ArePiecesOf units pieces → NoneContinues pieces → pieces ≡ fewest units
 fewest_only_of units pieces are apart = sym (ap fewest (sym are.flatten) ∙ fewest_only pieces are.each apart)
 
--- one piece more is needed for consecutive units, at the most
+-- consecutive units need at most one piece more than the units after them
 one_more : (unit : BlockUnit) (len : ℕ) (rest : List BlockUnit) → length (fewest (units_in unit (suc len) ++ rest)) ≤ suc (length (fewest rest))
 one_more unit zero rest = (onto_adds unit (fewest rest)).most
 one_more unit (suc len) rest =
@@ -78,7 +78,7 @@ one_more unit (suc len) rest =
     ap (onto unit) begins.is ∙ onto-joined unit (next_unit unit) begins.len begins.later (joins-next unit) in
     omega (arith, later, ap length joined, ap length begins.is)
 
--- so no other pieces of the units are fewer
+-- no other pieces that cover the units are fewer
 fewest_least : (pieces : List UnitRun) → AllByRecursion (λ piece. 0 < piece.len) pieces → length (fewest (flat_map piece_units pieces)) ≤ length pieces
 fewest_least [] h = omega arith
 fewest_least (piece ∷ pieces) h =

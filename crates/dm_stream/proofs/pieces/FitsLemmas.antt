@@ -1,10 +1,10 @@
--- What fits on the disks of a stack is few sectors.
+-- Units on the disks of a stack are fewer than 2^64.
 use Rattle.dm_stream.proofs.Prelude.{ℕ, arith, Description, IsSound, BlockUnit, CopyOf, FillOf, ReadOf, WriteOf, IsOnDisk, Fits}
 use Rattle.dm_stack.specs.declared.id.Lower.TheVariants as lowers
 use Rattle.dm_stack.proofs.InStack.{lower_small}
 use Rattle.std.specs.Prelude.{◌<◌, ◌^◌}
 
--- what a disk has is few sectors
+-- sectors that lie on a disk of a sound stack are fewer than 2^64
 few : (stack : Description) (disk sector len : ℕ) → IsSound stack → IsOnDisk stack disk sector len → len < 2 ^ 64
 few stack disk sector len sound lies =
     let small = lower_small stack (lowers.Disk disk) sound in

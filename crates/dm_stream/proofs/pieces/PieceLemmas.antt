@@ -1,8 +1,8 @@
--- How the fewest pieces of units in a row come about one unit at a time.
+-- How the fewest pieces of consecutive units arise, one unit at a time.
 use Rattle.dm_stream.proofs.Prelude.{ℕ, zero, suc, true, false, eqb, List, [], refl, sym, ap, ◌∙◌, arith, and_parts, and_from, eqb-true, eq-eqb, BlockUnit, ReadOf, WriteOf, Zeros, Drops, Fails, CopyOf, FillOf, next_unit, units_in, onto_begins, UnitRun, is_unit, joins, further, is_after, onto, fewest}
 use Rattle.std.specs.Prelude.{◌≡◌, ◌+◌, ◌∷◌, ◌++◌, ◌&&◌}
 
--- two numbers that equal two others make the same unit, and numbers equal themselves
+-- units with equal numbers are equal; below, numbers equal themselves
 same_two : (unit : ℕ → ℕ → BlockUnit) (disk sector other_disk other_sector : ℕ) → (eqb disk other_disk && eqb sector other_sector) ≡ true → unit disk sector ≡ unit other_disk other_sector
 same_two unit disk sector other_disk other_sector e =
     let parts = and_parts (eqb disk other_disk) (eqb sector other_sector) e in
@@ -30,14 +30,14 @@ is_unit-refl (CopyOf disk sector to to_sector) = and_from _ _ (two_same disk sec
 is_unit-refl (FillOf disk sector) = two_same disk sector
 is_unit-refl _ = refl
 
--- a unit goes on to its next one, and to no other
+-- a unit is continued by `next_unit` of it, and by no other unit
 pub joins-next : (unit : BlockUnit) → joins unit (next_unit unit) ≡ true
 joins-next unit = is_unit-refl (next_unit unit)
 
 pub joined_next : (unit next : BlockUnit) → joins unit next ≡ true → next ≡ next_unit unit
 joined_next unit next e = sym (one_unit (next_unit unit) next e)
 
--- the unit no sector on, one sector on, and one more
+-- the unit no sector further on is the unit itself; below, `suc len` sectors further on is `len` sectors after the next unit
 pub further-none : (unit : BlockUnit) → further unit 0 ≡ unit
 further-none (ReadOf disk sector) = let e : sector + 0 ≡ sector = omega arith in ap (ReadOf disk) e
 further-none (WriteOf disk sector) = let e : sector + 0 ≡ sector = omega arith in ap (WriteOf disk) e
@@ -58,14 +58,14 @@ further-more (CopyOf disk sector to to_sector) len =
 further-more (FillOf disk sector) len = let e : sector + suc len ≡ suc sector + len = omega arith in ap (FillOf disk) e
 further-more _ len = refl
 
--- the unit after a piece of one, and after a longer piece
+-- whether a unit continues a piece of one unit; below, a longer piece
 pub is_after-one : (unit after : BlockUnit) → is_after unit 1 after ≡ joins unit after
 is_after-one unit after = cc (further-more unit 0, further-none (next_unit unit))
 
 pub is_after-more : (unit : BlockUnit) (len : ℕ) (after : BlockUnit) → is_after unit (suc len) after ≡ is_after (next_unit unit) len after
 is_after-more unit len after = cc (further-more unit len)
 
--- units that go on from a piece lengthen it
+-- units that continue a piece lengthen it
 units-longer : (unit : BlockUnit) (len more : ℕ) → units_in unit len ++ units_in (further unit len) more ≡ units_in unit (len + more)
 units-longer unit zero more = let e : 0 + more ≡ more = omega arith in cc (further-none unit)
 units-longer unit (suc len) more =
@@ -75,14 +75,14 @@ units-longer unit (suc len) more =
 pub units_joined : (unit after : BlockUnit) (len more : ℕ) → is_after unit len after ≡ true → units_in unit (len + more) ≡ units_in unit len ++ units_in after more
 units_joined unit after len more e = cc (units-longer unit len more, one_unit (further unit len) after e)
 
--- a unit before pieces, by whether the first of them continues it
+-- a unit put in front of pieces, if the first piece continues it; below, if it doesn't
 pub onto-joined : (unit first : BlockUnit) (len : ℕ) (pieces : List UnitRun) → joins unit first ≡ true → onto unit (record { first = first; len = len } ∷ pieces) ≡ record { first = unit; len = suc len } ∷ pieces
 onto-joined unit first len pieces e = rw e refl
 
 pub onto-apart : (unit first : BlockUnit) (len : ℕ) (pieces : List UnitRun) → joins unit first ≡ false → onto unit (record { first = first; len = len } ∷ pieces) ≡ record { first = unit; len = 1 } ∷ record { first = first; len = len } ∷ pieces
 onto-apart unit first len pieces e = rw e refl
 
--- where a unit does not go on from a piece, the piece is one of the fewest
+-- a piece that the unit after it doesn't continue is one of the fewest pieces
 pub fewest-apart : (unit : BlockUnit) (len : ℕ) (after : BlockUnit) (rest : List BlockUnit) → is_after unit (suc len) after ≡ false → fewest (units_in unit (suc len) ++ after ∷ rest) ≡ record { first = unit; len = suc len } ∷ fewest (after ∷ rest)
 fewest-apart unit zero after rest e =
     let b = onto_begins after (fewest rest) in
@@ -91,7 +91,7 @@ fewest-apart unit (suc len) after rest e =
     ap (onto unit) (fewest-apart (next_unit unit) len after rest (sym (is_after-more unit (suc len) after) ∙ e))
     ∙ onto-joined unit (next_unit unit) (suc len) (fewest (after ∷ rest)) (joins-next unit)
 
--- the units of one piece are one piece
+-- consecutive units are one piece
 pub fewest-run : (unit : BlockUnit) (len : ℕ) → fewest (units_in unit (suc len)) ≡ record { first = unit; len = suc len } ∷ []
 fewest-run unit zero = refl
 fewest-run unit (suc len) = ap (onto unit) (fewest-run (next_unit unit) len) ∙ onto-joined unit (next_unit unit) (suc len) [] (joins-next unit)

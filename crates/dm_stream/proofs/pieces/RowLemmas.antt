@@ -1,4 +1,4 @@
--- A join that takes a row of legs: the range between two of them is at hand, and it is as if that were held.
+-- A join that takes a row of legs: between two legs, the last range is in a local variable, as if the join held it.
 use Rattle.dm_stream.proofs.Prelude.{ℕ, true, false, Bool, List, Some, refl, arith, Ok, Err, Op, OutputPast, HasWritten, IsSameReference, Description, AreOnDisks, IsLeg, LegsView, LiesOnDisk, leg_lies_on, leg_on_disk, IsDiskLeg, IsHanded, BlockUnit, IsOnDisk, disk_unit, diskless_len, units_in, units_of, DiskRange, HasLeft, HasTaken, join_past, IsHeld, held_diskless, holding, piece_of, range_piece}
 use Rattle.dm_stack.specs.declared.id.Lower.TheVariants.{Disk}
 use Rattle.dm_stack.specs.declared.lines.leg.Beneath.{Beneath}
@@ -7,11 +7,11 @@ use Rattle.dm_stack.specs.declared.lines.leg.Leg.{Leg}
 use Rattle.dm_stream.specs.declared.pieces.join.Join.{Join}
 use Rattle.std.specs.Prelude.{◌≡◌, ◌≤◌}
 
--- the join as it would be if it held a range
+-- the join as if it held this range
 abbrev pub at_hand : {W : Type 0} → Join W → DiskRange → Join W
 at_hand join range = record join { held = holding join.held range }
 
--- Legs as ranges
+-- Legs on disks, as ranges
 
 record IsAt (below : Beneath) : Type 0 where
   disk : ℕ
@@ -22,7 +22,7 @@ is_at : (below : Beneath) → LiesOnDisk below → IsAt below
 is_at (beneath.Lies (Disk disk) sector) lies = record { disk = disk; sector = sector; is = refl }
 is_at below lies = absurd lies
 
--- the range of the next leg of a row on disks
+-- the range of the next leg of a row that lies on disks
 pub record IsRangeOf (stack : Description) (op : Op) (legs : LegsView) (leg : Leg) (range : DiskRange) : Type 0 where
   pub disk : ℕ
   pub sector : ℕ
@@ -39,7 +39,7 @@ range_of_leg stack op legs leg range row is units held =
     let on = leg_lies_on stack legs leg at.disk at.sector row is at.is in
     record { disk = at.disk; sector = at.sector; on = on; units = units at.disk at.sector at.is; fits = held stack at.disk at.sector at.is is.some (record { there = on.there; inside = on.inside }) }
 
--- One of them
+-- One range of a row
 
 diskless-range : (is_write : Bool) (disk start len : ℕ) → diskless_len (range_piece is_write disk start len) ≡ 0
 diskless-range true disk start len = refl

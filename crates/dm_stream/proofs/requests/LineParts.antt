@@ -6,7 +6,7 @@ use Rattle.std.specs.Prelude.{◌≡◌, ◌+◌, ◌<◌, ◌≤◌, ◌++◌, 
 abbrev pub is_newline : ℕ → Bool
 is_newline b = b == 10
 
--- without a newline there is one part
+-- bytes without a newline are one part
 pub parts_without : (xs : List ℕ) → ((k : ℕ) → k < length xs → is_newline (get_or xs k 0) ≡ true → ⊥) → line_parts xs ≡ xs ∷ []
 parts_without [] h = refl
 parts_without (x ∷ xs) h =
@@ -21,7 +21,7 @@ parts_first (x ∷ xs) (suc n) l h e =
     slice_split-cons_no is_newline x xs (false_from_ne_true _ (h 0 (omega arith)))
     ∙ ap (onto_first x) (parts_first xs n (omega arith) (λ k l e. h (suc k) (omega arith) e) e)
 
--- there is always a part
+-- there is always at least one part
 pub some_part : (xs : List ℕ) → (part : List ℕ) × (parts : List (List ℕ)) × (line_parts xs ≡ part ∷ parts)
 some_part [] = ([], [], refl)
 some_part (x ∷ xs) = let s = some_part xs in elim (is_newline x) as (λ b. (part : List ℕ) × (parts : List (List ℕ)) × (cond b ([] ∷ line_parts xs) (onto_first x (line_parts xs)) ≡ part ∷ parts)) [
@@ -29,7 +29,7 @@ some_part (x ∷ xs) = let s = some_part xs in elim (is_newline x) as (λ b. (pa
   | false ↦ (x ∷ s.0, s.1, ap (onto_first x) s.2)
 ]
 
--- a front without a newline lengthens the first part
+-- bytes without a newline, put in front, lengthen the first part
 pub parts_after : (front xs : List ℕ) (part : List ℕ) (parts : List (List ℕ)) → line_parts front ≡ front ∷ [] → line_parts xs ≡ part ∷ parts → line_parts (front ++ xs) ≡ (front ++ part) ∷ parts
 parts_after [] xs part parts clear e = e
 parts_after (x ∷ front) xs part parts clear e =
@@ -44,13 +44,13 @@ parts_after (x ∷ front) xs part parts clear e =
     ap (onto_first x) (parts_after front xs part parts same e) in
     (elim (is_newline x) as P [ true ↦ at_newline | false ↦ at_other ]) clear
 
--- the parts by those of what stands after the bytes that were searched: none of them ends
+-- if neither the searched bytes nor those after them have a newline, all bytes are one part
 pub still_one : (xs : List ℕ) (n : ℕ) → line_parts (take n xs) ≡ take n xs ∷ [] → line_parts (drop n xs) ≡ drop n xs ∷ [] → line_parts xs ≡ xs ∷ []
 still_one xs n clear e =
     let whole = take-append-drop n xs in
     cc (parts_after (take n xs) (drop n xs) (drop n xs) [] clear e)
 
--- or the first of them does
+-- if the searched bytes have no newline, the first part ends at the first newline after them
 pub first_after : (xs : List ℕ) (n k : ℕ) → line_parts (take n xs) ≡ take n xs ∷ [] → line_parts (drop n xs) ≡ take k (drop n xs) ∷ line_parts (drop (k + 1) (drop n xs))
     → line_parts xs ≡ take (n + k) xs ∷ line_parts (drop (n + k + 1) xs)
 first_after xs n k clear e =
@@ -63,7 +63,7 @@ next_line stand line rest h =
     let s = some_part rest in
     cc (le-ltb MOST_LINE_BYTES (length line) h)
 
--- the line at the front of the bytes that are held
+-- the line at the front of the held bytes comes next if it is not too long
 pub next_held : (stand : Stand) (held : List ℕ) (n : ℕ) → n < length held → n ≤ MOST_LINE_BYTES → line_parts held ≡ take n held ∷ line_parts (drop (n + 1) held) → next_answer stand (line_parts held) ≡ ALine (take n held)
 next_held stand held n l h e =
     ap (next_answer stand) e ∙ next_line stand (take n held) (drop (n + 1) held) (omega (arith, length-take n held))

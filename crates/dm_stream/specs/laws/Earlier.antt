@@ -1,4 +1,4 @@
--- The laws of a player of earlier requests as a handler: what it played, and then played or stopped at, is one.
+-- Laws of a player of earlier requests as a handler: what it did with some requests and then with later ones is what it did with all of them.
 use Rattle.dm_stream.specs.Base.{ℕ, List, [], refl, ap, ◌∙◌, append_assoc, Description, State}
 use Rattle.dm_stream.specs.runs.Earlier.{HasMoved, HasStoppedAt}
 use Rattle.dm_stream.specs.runs.Outcome.{outcome_from}

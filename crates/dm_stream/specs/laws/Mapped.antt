@@ -1,4 +1,4 @@
--- The laws of a request mapper as a handler: what it answered, and then answered or stopped at, is one.
+-- Laws of a request mapper as a handler: what it did with some requests and then with later ones is what it did with all of them.
 use Rattle.dm_stream.specs.Base.{ℕ, List, [], Option, Some, sym, ap, ◌∙◌, append_assoc, since, since_more, Description, MapperView, State, since-same, NotMapped}
 use Rattle.dm_stream.specs.runs.Mapped.{HasAnswered, HasStopped}
 use Rattle.dm_stream.specs.runs.Outcome.{Outcome, after_text, outcome_from}
@@ -13,13 +13,13 @@ answered_none stack state w = record {
   told = λ rest e. ap (λ (text : List ℕ). after_text text (outcome_from stack state rest e)) (sym (since-same w));
 }
 
--- one text and then another
+-- an outcome after two texts in a row is the outcome after both texts as one
 texts_more : (w0 w1 w2 : List ℕ) (o : Outcome) → w1 ≡ w0 ++ since w0 w1 → w2 ≡ w1 ++ since w1 w2 → after_text (since w0 w1) (after_text (since w1 w2) o) ≡ after_text (since w0 w2) o
 texts_more w0 w1 w2 o e f =
     ap (λ (text : List ℕ). record { output = text; state = o.state; ending = o.ending }) (sym (append_assoc (since w0 w1) (since w1 w2) o.output))
     ∙ ap (λ (text : List ℕ). after_text text o) (sym (since_more w0 w1 w2 e f))
 
--- requests of which the first are answered
+-- the outcome of requests whose first ones were answered: what was written for these, and then the outcome of the others
 first_answered : (stack : Description) (a b : State) (us vs rest : List NumberedRequest) (e : Option ending.Ending) (w0 w1 : List ℕ) → HasAnswered stack a b us w0 w1
     → outcome_from stack a ((us ++ vs) ++ rest) e ≡ after_text (since w0 w1) (outcome_from stack b (vs ++ rest) e)
 first_answered stack a b us vs rest e w0 w1 first =

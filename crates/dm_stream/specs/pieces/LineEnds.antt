@@ -1,4 +1,4 @@
--- The ends of lines, as they are kept.
+-- The length and newline that end a line, kept as arrays of eight bytes.
 use Rattle.dm_stream.specs.Base.{ℕ, List, [], get_or, length, take, decimal, code}
 use Rattle.std.specs.Prelude.{◌≡◌, ◌<◌, ◌≤◌, ◌∷◌, ◌++◌}
 
@@ -6,10 +6,10 @@ use Rattle.std.specs.Prelude.{◌≡◌, ◌<◌, ◌≤◌, ◌∷◌, ◌++◌
 abbrev pub line_end : ℕ → List ℕ
 line_end len = decimal len ++ code "\n" ∷ []
 
--- an array of eight bytes begins with that, and says as the last of them how many bytes it is
+-- an array of eight bytes that begins with the end of a line, and whose last byte says how many bytes that end has
 abbrev pub IsLineEnd : ℕ → List ℕ → Type 0
 IsLineEnd len array = (length array ≡ 8) × (get_or array 7 0 ≤ 8) × (take (get_or array 7 0) array ≡ line_end len)
 
--- each length below a bound has one
+-- each length below the bound has an array with its line end
 abbrev pub AreMade : ℕ → List (List ℕ) → Type 0
 AreMade bound ends = (len : ℕ) → len < bound → IsLineEnd len (get_or ends len [])

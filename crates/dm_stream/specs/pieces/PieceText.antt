@@ -1,14 +1,14 @@
--- How pieces are written: a line each, under the number of their request.
+-- How pieces are written: one line each, with their request's number.
 use Rattle.dm_stream.specs.Base.{ℕ, List, [], codes, decimal, flat_map, code, Description, disk_name_at, BlockUnit, ReadOf, WriteOf, Zeros, Drops, Fails, CopyOf, FillOf}
 use Rattle.dm_map.specs.declared.pieces.piece.Piece as coded
 use Rattle.dm_stream.specs.pieces.Pieces.{UnitRun}
 use Rattle.std.specs.Prelude.{◌∷◌, ◌++◌}
 
--- a place on a disk: its name and a sector
+-- a sector of a disk, as lines write it: the disk's name and the sector
 abbrev pub sector_text : Description → ℕ → ℕ → List ℕ
 sector_text stack disk sector = disk_name_at stack disk ++ code " " ∷ decimal sector
 
--- the line of a piece, after the number
+-- the line of a piece, after the request's number
 abbrev pub unit_text : Description → BlockUnit → ℕ → List ℕ
 unit_text stack (ReadOf disk sector) len = codes "R " ++ sector_text stack disk sector ++ code " " ∷ decimal len
 unit_text stack (WriteOf disk sector) len = codes "W " ++ sector_text stack disk sector ++ code " " ∷ decimal len
@@ -18,37 +18,37 @@ unit_text stack Fails len = codes "error " ++ decimal len
 unit_text stack (CopyOf disk sector to to_sector) len = codes "copy " ++ sector_text stack disk sector ++ code " " ∷ decimal len ++ code " " ∷ sector_text stack to to_sector
 unit_text stack (FillOf disk sector) len = codes "fill " ++ decimal len ++ code " " ∷ sector_text stack disk sector
 
--- a piece without a disk
+-- the piece has no disk
 abbrev pub IsDiskless : coded.Piece → Type 0
 IsDiskless (coded.TheVariants.Zero len) = Unit {0}
 IsDiskless (coded.TheVariants.Drop len) = Unit {0}
 IsDiskless (coded.TheVariants.Error len) = Unit {0}
 IsDiskless _ = ⊥
 
--- what its line begins with after the number
+-- the word of a line without a disk, which follows the request's number
 abbrev pub diskless_word : BlockUnit → List ℕ
 diskless_word Zeros = codes "zero "
 diskless_word Drops = codes "drop "
 diskless_word unit = codes "error "
 
--- a piece that is a copy or a fill
+-- the piece is a copy or a fill
 abbrev pub IsOther : coded.Piece → Type 0
 IsOther (coded.TheVariants.Copy disk start len to to_start) = Unit {0}
 IsOther (coded.TheVariants.Fill len disk start) = Unit {0}
 IsOther _ = ⊥
 
--- the line of a piece under a request's number
+-- the line of a piece, with its request's number
 abbrev pub piece_text : Description → ℕ → UnitRun → List ℕ
 piece_text stack number piece = decimal number ++ code " " ∷ unit_text stack piece.first piece.len ++ code "\n" ∷ []
 
--- the line of a letter and a range of a disk under a request's number: that of a read or a write
+-- the line of a read or a write, from the request's number, the letter and the range of a disk
 abbrev pub range_line : Description → (number letter disk start len : ℕ) → List ℕ
 range_line stack number letter disk start len = decimal number ++ code " " ∷ (letter ∷ code " " ∷ sector_text stack disk start ++ code " " ∷ decimal len) ++ code "\n" ∷ []
 
--- the line of a word and a length under a request's number: that of a piece without a disk
+-- the line of a piece without a disk, from the request's number, the piece's word and its length
 abbrev pub plain_line : (number : ℕ) → (word : List ℕ) → (len : ℕ) → List ℕ
 plain_line number word len = decimal number ++ code " " ∷ (word ++ decimal len) ++ code "\n" ∷ []
 
--- the lines of a request's pieces
+-- the lines of all pieces of a request
 abbrev pub pieces_text : Description → ℕ → List UnitRun → List ℕ
 pieces_text stack number pieces = flat_map (piece_text stack number) pieces

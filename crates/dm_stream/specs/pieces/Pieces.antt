@@ -1,17 +1,17 @@
--- Pieces of units: consecutive units as one, and the fewest of them.
+-- Pieces as runs of consecutive units, and the fewest pieces that cover given units.
 use Rattle.dm_stream.specs.Base.{ℕ, suc, Bool, true, false, List, [], length, flat_map, AllByRecursion, BlockUnit, ReadOf, WriteOf, Zeros, Drops, Fails, CopyOf, FillOf, next_unit, units_in}
 use Rattle.std.specs.Prelude.{◌≡◌, ◌+◌, ◌<◌, ◌≤◌, ◌&&◌, ◌==◌, ◌∷◌, if◌then◌else◌}
 
--- a unit, and how many consecutive ones begin with it
+-- consecutive units as one piece: the first unit, and how many there are
 pub record UnitRun : Type 0 where
   pub first : BlockUnit
   pub len : ℕ
 
--- the units of a piece
+-- the units that a piece covers
 abbrev pub piece_units : UnitRun → List BlockUnit
 piece_units piece = units_in piece.first piece.len
 
--- two units are the same: of one kind, at the same sectors of the same disks
+-- two units are equal: of the same kind, at the same sectors of the same disks
 abbrev pub is_unit : BlockUnit → BlockUnit → Bool
 is_unit (ReadOf disk sector) (ReadOf other_disk other_sector) = disk == other_disk && sector == other_sector
 is_unit (WriteOf disk sector) (WriteOf other_disk other_sector) = disk == other_disk && sector == other_sector
@@ -23,11 +23,11 @@ is_unit (CopyOf disk sector to to_sector) (CopyOf other_disk other_sector other_
 is_unit (FillOf disk sector) (FillOf other_disk other_sector) = disk == other_disk && sector == other_sector
 is_unit _ _ = false
 
--- the second unit continues the first: the same kind and disks, the next sectors
+-- the unit `next` continues `unit`: it has the same kind and disks, and the next sectors
 abbrev pub joins : BlockUnit → BlockUnit → Bool
 joins unit next = is_unit (next_unit unit) next
 
--- the unit len sectors further on
+-- the unit `len` sectors after this one
 abbrev pub further : BlockUnit → ℕ → BlockUnit
 further (ReadOf disk sector) len = ReadOf disk (sector + len)
 further (WriteOf disk sector) len = WriteOf disk (sector + len)
@@ -37,22 +37,22 @@ further Fails len = Fails
 further (CopyOf disk sector to to_sector) len = CopyOf disk (sector + len) to (to_sector + len)
 further (FillOf disk sector) len = FillOf disk (sector + len)
 
--- the unit continues a piece of len units
+-- the unit continues a piece of `len` units that begins with `first`
 abbrev pub is_after : BlockUnit → ℕ → BlockUnit → Bool
 is_after first len unit = is_unit (further first len) unit
 
--- a unit before pieces: it lengthens the first of them if that continues it
+-- puts a unit in front of pieces: it lengthens the first piece if that continues the unit, and is a piece of its own otherwise
 abbrev pub onto : BlockUnit → List UnitRun → List UnitRun
 onto unit [] = record { first = unit; len = 1 } ∷ []
 onto unit (piece ∷ pieces) =
     if joins unit piece.first then record { first = unit; len = suc piece.len } ∷ pieces else record { first = unit; len = 1 } ∷ piece ∷ pieces
 
--- the pieces of units, as few as can be
+-- the fewest pieces that cover these units
 abbrev pub fewest : List BlockUnit → List UnitRun
 fewest [] = []
 fewest (unit ∷ units) = onto unit (fewest units)
 
--- the pieces have these units, and none is empty
+-- the pieces cover exactly these units, in order, and none is empty
 pub record ArePiecesOf (units : List BlockUnit) (pieces : List UnitRun) : Type 0 where
   pub flatten : flat_map piece_units pieces ≡ units
   pub each : AllByRecursion (λ piece. 0 < piece.len) pieces
@@ -63,7 +63,7 @@ NoneContinues [] = Unit {0}
 NoneContinues (piece ∷ []) = Unit {0}
 NoneContinues (piece ∷ next ∷ pieces) = (is_after piece.first piece.len next.first ≡ false) × NoneContinues (next ∷ pieces)
 
--- the pieces that fewest gives: the only ones of the units of which none continues the one before, and no others are fewer
+-- the pieces are the only ones that cover these units without one continuing the piece before it, and no others are fewer
 pub record AreFewest (units : List BlockUnit) (pieces : List UnitRun) : Type 0 where
   pub are : ArePiecesOf units pieces
   pub apart : NoneContinues pieces

@@ -1,4 +1,4 @@
--- Requests at the front of held bytes that are answered together.
+-- Requests at the front of held bytes that are answered together, as a batch.
 use Rattle.dm_stream.specs.Base.{ℕ, List, Result, Ok, Err, drop, length, map, Stand}
 use Rattle.dm_stream.specs.requests.Lines.{line_parts}
 use Rattle.dm_stream.specs.requests.Requests.{IsAmong, NumberedRequest, after_requests, numbered, requests_from}
@@ -7,25 +7,25 @@ use Rattle.dm_stream.specs.declared.requests.front.Front.{Front}
 use Rattle.dm_stream.specs.declared.requests.handling.TheConstants.{MOST_REQUESTS}
 use Rattle.std.specs.Prelude.{◌≡◌, ◌+◌, ◌≤◌, ◌++◌}
 
--- whatever comes after the bytes, their requests from line n on are these, and then those of a rest from line k on
+-- whatever bytes follow, the requests from line `n` on are these, and after them those of `rest` from line `k` on
 abbrev pub AreFirst : (n : ℕ) (bytes : List ℕ) → List NumberedRequest → (k : ℕ) (rest : List ℕ) → Type 0
 AreFirst n bytes requests k rest =
     (stand : Stand) (more : List ℕ) → requests_from stand n (line_parts (bytes ++ more)) ≡ after_requests requests (requests_from stand k (line_parts (rest ++ more)))
 
--- the requests of fronts
+-- the requests of fronts, with their line numbers
 abbrev pub front_requests : List Front → List NumberedRequest
 front_requests fronts = map (λ front. numbered front.request) fronts
 
--- the first requests of the bytes, from line n on, were answered, and those of the rest come next, from line k on
+-- the first requests in the bytes, from line `n` on, were answered; the next ones are those of `rest`, from line `k` on
 abbrev pub AreFirstAnswered : {H S : Type 0} → (AreAnswered : H → S → List NumberedRequest → H → S → Type 0) → (n : ℕ) (bytes : List ℕ) (k : ℕ) (rest : List ℕ) → H → S → H → S → Type 0
 AreFirstAnswered AreAnswered n bytes k rest h0 s0 h1 s1 = (requests : List NumberedRequest) × AreFirst n bytes requests k rest × AreAnswered h0 s0 requests h1 s1
 
--- a first part of the requests of the bytes, from line n on
+-- `IsThis` holds of some first requests in the bytes, from line `n` on
 abbrev pub IsAmongFirst : (IsThis : List NumberedRequest → Type 0) → (n : ℕ) (bytes : List ℕ) → Type 0
 IsAmongFirst IsThis n bytes =
     (requests : List NumberedRequest) × (k : ℕ) × (rest : List ℕ) × AreFirst n bytes requests k rest × IsAmong IsThis requests
 
--- requests at the front of the bytes were answered, after others; their number and the bytes of their lines are known, and more can come
+-- after `others` requests, as many requests as `fronts` counts were answered from the front of the bytes, and the handler is ready for more
 pub record HasAnsweredFronts {H S : Type 0} (IsReady : H → S → Type 0) (AreAnswered : H → S → List NumberedRequest → H → S → Type 0) (others : ℕ) (bytes : List ℕ) (fronts : Answered) (h0 : H) (s0 : S) (h1 : H) (s1 : S) : Type 0 where
   pub answered : AreFirstAnswered AreAnswered (others + 1) bytes (others + fronts.count + 1) (drop fronts.len bytes) h0 s0 h1 s1
   pub within : fronts.len ≤ length bytes

@@ -4,11 +4,11 @@ use Rattle.dm_stream.specs.declared.requests.lines.TheConstants.{MOST_LINE_BYTES
 use Rattle.dm_stream.specs.declared.requests.lines.Next as next
 use Rattle.std.specs.Prelude.{◌+◌, ◌∷◌, if◌then◌else◌}
 
--- what stands between newlines: each part but the last is a line, and the last is the rest
+-- the bytes between newlines: every part but the last is a line, and the last has no newline yet
 abbrev pub line_parts : List ℕ → List (List ℕ)
 line_parts bytes = parts_at (code "\n") bytes
 
--- what comes next; Waits says that the bytes so far do not settle it
+-- what comes next in an input; `Waits` means that the bytes so far don't settle it
 pub data Answer : Type 0 where
   ALine : List ℕ → Answer
   AnEnd : Answer
@@ -17,20 +17,20 @@ pub data Answer : Type 0 where
   AFault : Answer
   Waits : Answer
 
--- what a rest is, by how the input stands
+-- what bytes without a newline are, if the input is at its end, has failed, or is still open
 abbrev pub rest_answer : Stand → List ℕ → Answer
 rest_answer Clean [] = AnEnd
 rest_answer Clean (byte ∷ bytes) = AnUnended
 rest_answer Failed rest = AFault
 rest_answer Open rest = Waits
 
--- what comes next, by the parts and how the input stands: too long takes precedence over all else
+-- what comes next in an input, given its parts and whether it ended, failed or is open; a line that is too long takes precedence over everything else
 abbrev pub next_answer : Stand → List (List ℕ) → Answer
 next_answer stand [] = Waits
 next_answer stand (rest ∷ []) = if nat_lt MOST_LINE_BYTES (length rest) then ALong else rest_answer stand rest
 next_answer stand (line ∷ part ∷ parts) = if nat_lt MOST_LINE_BYTES (length line) then ALong else ALine line
 
--- what was returned
+-- what `Next` says comes next
 abbrev pub answer_of : next.Next → Answer
 answer_of (next.TheVariants.Line line) = ALine line.now
 answer_of next.TheVariants.End = AnEnd
@@ -38,12 +38,12 @@ answer_of next.TheVariants.Unended = AnUnended
 answer_of next.TheVariants.Long = ALong
 answer_of next.TheVariants.ReadFault = AFault
 
--- what is still held, of what was held and read: a line leaves with its newline
+-- the bytes that are still held after this answer: a line is removed with its newline
 abbrev pub left_of : Answer → List ℕ → List ℕ
 left_of (ALine line) held = drop (length line + 1) held
 left_of other held = held
 
--- a fact if a line was returned, or is too long
+-- `P` holds if a line was returned or is too long
 abbrev pub OnLine : next.Next → Type 0 → Type 0
 OnLine (next.TheVariants.Line line) P = P
 OnLine next.TheVariants.Long P = P

@@ -1,11 +1,11 @@
--- What the held bytes alone say of what comes next.
+-- What the held bytes alone say about what comes next.
 use Rattle.dm_stream.specs.Base.{ℕ, List, [], length, take, Option, None, Some, Stand}
 use Rattle.dm_stream.specs.declared.requests.lines.TheConstants.{MOST_LINE_BYTES}
 use Rattle.dm_stream.specs.requests.Lines.{Answer, ALine, AnEnd, AnUnended, ALong, AFault, next_answer, line_parts}
 use Rattle.dm_stream.specs.declared.requests.lines.NextHeld as found
 use Rattle.std.specs.Prelude.{◌≡◌, ◌<◌, ◌≤◌, ◌∷◌}
 
--- what was found, at the bytes that are held
+-- what `NextHeld` says comes next, with the line that it counts taken from the held bytes
 abbrev pub held_answer : found.NextHeld → List ℕ → Answer
 held_answer (found.TheVariants.Line n) held = ALine (take n held)
 held_answer found.TheVariants.End held = AnEnd
@@ -13,18 +13,18 @@ held_answer found.TheVariants.Unended held = AnUnended
 held_answer found.TheVariants.Long held = ALong
 held_answer found.TheVariants.ReadFault held = AFault
 
--- a fact if a line was found, or is too long
+-- `P` holds if a line was found or is too long
 abbrev pub OnHeldLine : found.NextHeld → Type 0 → Type 0
 OnHeldLine (found.TheVariants.Line n) P = P
 OnHeldLine found.TheVariants.Long P = P
 OnHeldLine other P = Unit {0}
 
--- a line that was found is among the held bytes with its newline
+-- a line that was found lies within the held bytes, with its newline
 abbrev pub FitsIn : found.NextHeld → List ℕ → Type 0
 FitsIn (found.TheVariants.Line n) held = n < length held
 FitsIn other held = Unit {0}
 
--- what the held bytes settle, however the input stands; or that they settle nothing
+-- what the held bytes settle, wherever the input stands; or that they settle nothing yet
 abbrev pub IsLook : Option found.NextHeld → List ℕ → Type 0
 IsLook (Some f) held = FitsIn f held × ((stand : Stand) → next_answer stand (line_parts held) ≡ held_answer f held)
 IsLook None held = (line_parts held ≡ held ∷ []) × (length held ≤ MOST_LINE_BYTES)

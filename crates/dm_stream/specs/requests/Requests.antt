@@ -9,50 +9,50 @@ use Rattle.dm_stream.specs.declared.runs.ending.RequestWord as word
 use Rattle.dm_stream.specs.declared.requests.handling.TheConstants.{MOST_REQUESTS}
 use Rattle.std.specs.Prelude.{◌≡◌, ◌<◌, ◌≤◌, ◌+◌, ◌∷◌, ◌++◌, if◌then◌else◌}
 
--- a request, and the number of its line
+-- a request with the number of its line
 pub record NumberedRequest : Type 0 where
   pub number : ℕ
   pub values : RequestValues
 
--- a request as the definitions see it
+-- a parsed request with the number of its line
 abbrev pub numbered : Request → NumberedRequest
 numbered request = record { number = request.number; values = values_of request }
 
--- the requests up to the first bad line, an end or a fault, and which of these it is, where that is settled
+-- the requests up to the first bad line, the end or a fault, and how they end; None while that isn't settled
 pub record Requests : Type 0 where
   pub all : List NumberedRequest
   pub ending : Option ending.Ending
 
--- requests, and then what comes after them
+-- requests, followed by later ones with their ending
 abbrev pub after_requests : List NumberedRequest → Requests → Requests
 after_requests first rest = record { all = first ++ rest.all; ending = rest.ending }
 
--- no request more, and it ends like this
+-- no more requests, and this ending
 abbrev pub ends : ending.Ending → Requests
 ends e = record { all = []; ending = Some e }
 
--- the line of this number is bad
+-- no more requests: the line of this number is bad, for this reason
 abbrev pub is_bad : ℕ → word.RequestWord → Requests
 is_bad number w = ends (ending.TheVariants.BadRequest number w)
 
--- the word for a fault of a line
+-- the word that reports a fault of a line
 abbrev pub word_for : RequestFault → word.RequestWord
 word_for faults.Form = word.TheVariants.Form
 word_for faults.Number = word.TheVariants.Number
 word_for faults.Length = word.TheVariants.Length
 
--- a line by what is read of it: values are a request, and rest comes after it
+-- the requests from a parsed line on: its request and then `rest`, or an ending at a bad line
 abbrev pub by_reading : ℕ → Result RequestValues RequestFault → Requests → Requests
 by_reading number (Ok values) rest = after_requests (record { number = number; values = values } ∷ []) rest
 by_reading number (Err fault) rest = is_bad number (word_for fault)
 
--- the requests from a line on, where rest is those of the lines after it
+-- the requests from this line on, if `rest` are those of the lines after it
 abbrev pub line_requests : ℕ → List ℕ → Requests → Requests
 line_requests number line rest =
     if nat_lt MOST_REQUESTS number then is_bad number word.TheVariants.Many
     else by_reading number (request_reading line) rest
 
--- the requests from what comes next on
+-- the requests from what comes next in an input on
 abbrev pub next_requests : ℕ → Answer → Requests → Requests
 next_requests number (ALine line) rest = line_requests number line rest
 next_requests number AnEnd rest = ends ending.TheVariants.Done
@@ -61,24 +61,24 @@ next_requests number ALong rest = is_bad number word.TheVariants.Long
 next_requests number AFault rest = ends ending.TheVariants.ReadFault
 next_requests number Waits rest = record { all = []; ending = None }
 
--- the requests of the parts between newlines, from the line of this number on
+-- the requests of an input's parts between newlines, from the line of this number on
 abbrev pub requests_from : Stand → ℕ → List (List ℕ) → Requests
 requests_from stand number [] = record { all = []; ending = None }
 requests_from stand number (part ∷ parts) =
     next_requests number (next_answer stand (part ∷ parts)) (requests_from stand (number + 1) parts)
 
--- the requests of what was delivered
+-- the requests of what an input delivered
 abbrev pub requests_of : Delivery → Requests
 requests_of delivered = requests_from delivered.stand 1 (line_parts delivered.bytes)
 
--- a first part of the requests
+-- `IsFirst` holds of some first part of the requests
 pub record IsAmong (IsFirst : List NumberedRequest → Type 0) (requests : List NumberedRequest) : Type 0 where
   pub first : List NumberedRequest
   pub later : List NumberedRequest
   pub is : requests ≡ first ++ later
   pub holds : IsFirst first
 
--- what the input of requests met, by how they end: nothing at a bad line, unless an end left it without its newline
+-- what reading the requests met if they end like this: at a bad line neither an end nor a fault, except the end behind an unterminated line
 abbrev pub HasMet : ending.Ending → (old new : InputPast) → Type 0
 HasMet ending.TheVariants.Done old new = new.faults ≤ old.faults
 HasMet (ending.TheVariants.BadRequest number word.TheVariants.Unended) old new = new.faults ≤ old.faults

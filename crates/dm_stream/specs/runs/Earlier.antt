@@ -1,4 +1,4 @@
--- What playing earlier requests leaves: requests that were carried out before a run, whose answers nobody waits for.
+-- What playing earlier requests leaves: they were carried out before a run, and their answers are not written.
 use Rattle.dm_stream.specs.Base.{ℕ, List, Option, Some, Result, Ok, Err, IfErr, OnOk, Description, State, EarlierFault}
 use Rattle.dm_stream.specs.runs.Outcome.{Outcome, outcome_from}
 use Rattle.dm_stream.specs.requests.Requests.{NumberedRequest}
@@ -7,30 +7,30 @@ use Rattle.dm_stream.specs.declared.runs.ending.Ending as ending
 use Rattle.dm_stream.specs.declared.runs.ending.RequestWord as word
 use Rattle.std.specs.Prelude.{◌≡◌, ◌++◌}
 
--- two outcomes leave the same state, and end alike; what they write is another matter
+-- two outcomes leave the same state and have the same ending; their outputs may differ
 pub record LeaveTheSame (a b : Outcome) : Type 0 where
   pub state : a.state ≡ b.state
   pub ending : a.ending ≡ b.ending
 
--- whatever requests come after these, they leave what the others leave from the new state on
+-- whatever requests follow, playing these turns the old state into the new one and changes nothing else of the outcome
 pub record HasMoved (stack : Description) (old new : State) (requests : List NumberedRequest) : Type 0 where
   pub told : (rest : List NumberedRequest) (e : Option ending.Ending) → LeaveTheSame (outcome_from stack old (requests ++ rest) e) (outcome_from stack new rest e)
 
--- one of these requests, of this number, names no device, so they end there
+-- the request of this number, one of these, names no device, and so the outcome ends there
 pub record HasStoppedAt (stack : Description) (old : State) (requests : List NumberedRequest) (number : ℕ) : Type 0 where
   pub told : (rest : List NumberedRequest) (e : Option ending.Ending) → (outcome_from stack old (requests ++ rest) e).ending ≡ Some (ending.TheVariants.BadRequest number word.TheVariants.Unknown)
 
--- how requests end that are refused so
+-- the ending of requests that are refused for this fault
 abbrev pub refused_ending : EarlierFault → ending.Ending
 refused_ending (faults.BadRequest number w) = ending.TheVariants.BadRequest number w
 refused_ending faults.Read = ending.TheVariants.ReadFault
 
--- how requests ended that were played, or refused
+-- the ending of earlier requests that were played, or refused
 abbrev pub played_ending : Result (Unit {0}) EarlierFault → ending.Ending
 played_ending (Ok done) = ending.TheVariants.Done
 played_ending (Err fault) = refused_ending fault
 
--- requests of this outcome were played: all of them, up to a clean end, and this is the state that they left; or they ended badly
+-- earlier requests with this outcome were played to a clean end and left this state, or they ended badly and were refused
 pub record HasPlayed (outcome : Outcome) (left : State) (result : Result (Unit {0}) EarlierFault) : Type 0 where
   pub done : OnOk result ((outcome.ending ≡ Some ending.TheVariants.Done) × (left ≡ outcome.state))
   pub refused : IfErr result (λ fault. outcome.ending ≡ Some (refused_ending fault))

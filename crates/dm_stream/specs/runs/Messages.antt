@@ -1,4 +1,4 @@
--- The message of each ending, and how a message is told.
+-- The message of each ending, and how messages are written.
 use Rattle.dm_stream.specs.Base.{ℕ, List, [], Result, Ok, Err, codes, decimal, OutputPast, written_since, IsBeginning, HasGrown, EarlierFault}
 use Rattle.dm_stream.specs.declared.runs.earlier.EarlierFault.TheVariants as earlier
 use Rattle.dm_stream.specs.declared.runs.ending.Ending.{Ending}
@@ -7,7 +7,7 @@ use Rattle.dm_stream.specs.declared.runs.ending.RequestWord.{RequestWord}
 use Rattle.dm_stream.specs.declared.runs.ending.RequestWord.TheVariants as words
 use Rattle.std.specs.Prelude.{◌≡◌, ◌≤◌, ◌+◌, ◌++◌}
 
--- the word of a bad request
+-- how messages write what is wrong with a request
 abbrev pub request_word : RequestWord → List ℕ
 request_word words.Long = codes "long"
 request_word words.Unended = codes "unended"
@@ -17,37 +17,37 @@ request_word words.Number = codes "number"
 request_word words.Length = codes "length"
 request_word words.Unknown = codes "unknown"
 
--- the message of a request that is refused, with a word that says why
+-- the message for a request that is refused, with a word that says why
 abbrev pub refused_request : ℕ → List ℕ → List ℕ
 refused_request number word = codes "dmremap: request " ++ decimal number ++ codes ": " ++ word ++ codes "\n"
 
--- the message of earlier requests that are refused
+-- the message for earlier requests that are refused
 abbrev pub earlier_message : EarlierFault → List ℕ
 earlier_message (earlier.BadRequest number word) = codes "dmremap: before: " ++ request_word word ++ codes " at " ++ decimal number ++ codes "\n"
 earlier_message earlier.Read = codes "dmremap: before: read\n"
 
--- the message where the output failed
+-- the message for an output that failed
 abbrev pub write_message : List ℕ
 write_message = codes "dmremap: output: write\n"
 
--- the message of an ending: none if all requests were answered
+-- the message of an ending; empty if all requests were answered
 abbrev pub ending_message : Ending → List ℕ
 ending_message endings.Done = []
 ending_message (endings.BadRequest number word) = refused_request number (request_word word)
 ending_message endings.ReadFault = codes "dmremap: requests: read\n"
 ending_message endings.WriteFault = write_message
 
--- the message that is told when an output was closed: that of a failed output goes before any other
+-- the message after an output was closed: a failed output takes precedence over any other message
 abbrev pub told_at_close : {E : Type 0} → Result (Unit {0}) E → List ℕ → List ℕ
 told_at_close (Ok closed) message = message
 told_at_close (Err fault) message = write_message
 
--- the message was written whole, or a beginning of it if its stream failed
+-- the message was written whole, or only a prefix of it if its stream failed
 pub record IsTold (message : List ℕ) (old new : OutputPast) : Type 0 where
   pub beginning : IsBeginning message (written_since old new)
   pub whole : new.faults ≡ old.faults → written_since old new ≡ message
 
--- the message was told on a stream, which only took more, and was not flushed; nothing is told after a write that failed
+-- the message was written to a stream, which was not flushed, and at most one write to it failed
 pub record HasTold (message : List ℕ) (old new : OutputPast) : Type 0 where
   pub appends : HasGrown old.written new.written
   pub told : IsTold message old new

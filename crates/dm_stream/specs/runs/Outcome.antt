@@ -1,4 +1,4 @@
--- What a run writes for what its requests delivered, the state that they leave, and how it ends.
+-- What a run writes for the requests that were delivered, the state that they leave, and how the run ends.
 use Rattle.dm_stream.specs.Base.{ℕ, Bool, List, [], Option, None, Some, position, Delivery, Description, is_same, request_step, State, Step}
 use Rattle.dm_stream.specs.pieces.PieceText.{pieces_text}
 use Rattle.dm_stream.specs.pieces.Pieces.{fewest}
@@ -8,49 +8,49 @@ use Rattle.dm_stream.specs.declared.runs.ending.Ending as ending
 use Rattle.dm_stream.specs.declared.runs.ending.RequestWord as word
 use Rattle.std.specs.Prelude.{◌∷◌, ◌++◌, if◌then◌else◌}
 
--- what is written, the state that is left, and how it ends, where that is settled
+-- what is written, the state that is left, and how the run ends; None while that isn't settled
 pub record Outcome : Type 0 where
   pub output : List ℕ
   pub state : State
   pub ending : Option ending.Ending
 
--- a text, and then an outcome
+-- an outcome with a text before its output
 abbrev pub after_text : List ℕ → Outcome → Outcome
 after_text text rest = record { output = text ++ rest.output; state = rest.state; ending = rest.ending }
 
--- the id of the device of a name, if there is one
+-- the id of the device with this name, if there is one
 abbrev pub device_of : Description → List ℕ → Option ℕ
 device_of stack name = position (λ device. is_same device.name name) stack.devices
 
--- what becomes of a request of a device, in the state that the requests before left
+-- what a request to a device does, in the state that earlier requests left
 abbrev pub step_of : Description → (device : ℕ) → NumberedRequest → State → Step
 step_of stack device request state =
     request_step stack request.values.op device request.values.start request.values.len state
 
--- the answer to a request of a device: its units in the fewest pieces
+-- the answer to a request to a device: its units in the fewest pieces, as lines
 abbrev pub request_answer : Description → (device : ℕ) → NumberedRequest → State → List ℕ
 request_answer stack device request state =
     pieces_text stack request.number (fewest (step_of stack device request state).units)
 
--- the outcome from a request on, by its device; later gives that of the requests after it, by the state that they find
+-- the outcome from a request on, if `later` gives that of the requests after it; a request with an unknown device ends it
 abbrev pub of_device : Description → Option ℕ → NumberedRequest → State → (State → Outcome) → Outcome
 of_device stack (Some device) request state later =
     after_text (request_answer stack device request state) (later (step_of stack device request state).state)
 of_device stack None request state later =
     record { output = []; state = state; ending = Some (ending.TheVariants.BadRequest request.number word.TheVariants.Unknown) }
 
--- the outcome of requests in a row, from a state on: each is answered in the state that the one before left
+-- the outcome of requests, each answered in the state that the one before it left
 abbrev pub outcome_from : Description → State → List NumberedRequest → Option ending.Ending → Outcome
 outcome_from stack state [] e = record { output = []; state = state; ending = e }
 outcome_from stack state (request ∷ requests) e =
     of_device stack (device_of stack request.values.device) request state (λ after. outcome_from stack after requests e)
 
--- the outcome of what the requests delivered, without status lines
+-- the outcome of the delivered requests, without status lines
 abbrev pub requests_outcome : Description → State → Delivery → Outcome
 requests_outcome stack state delivered =
     let requests = requests_of delivered in outcome_from stack state requests.all requests.ending
 
--- the text that comes after the answers: this one, if it is asked for and all requests were answered, up to a clean end; otherwise none
+-- the text that follows the answers: `text` if it is asked for and the requests ended cleanly, or else nothing
 abbrev pub if_done : (asked : Bool) → Option ending.Ending → List ℕ → List ℕ
 if_done asked (Some ending.TheVariants.Done) text = if asked then text else []
 if_done asked (Some (ending.TheVariants.BadRequest number w)) text = []
@@ -58,11 +58,11 @@ if_done asked (Some ending.TheVariants.ReadFault) text = []
 if_done asked (Some ending.TheVariants.WriteFault) text = []
 if_done asked None text = []
 
--- an outcome, and then the status lines of the state that it leaves, if they are asked for
+-- the outcome, with the status lines of its state after its output if they are asked for
 abbrev pub with_status : Description → (status : Bool) → Outcome → Outcome
 with_status stack status outcome =
     record outcome { output = outcome.output ++ if_done status outcome.ending (status_text stack outcome.state) }
 
--- the outcome of what the requests delivered, with status lines if they are asked for
+-- the outcome of the delivered requests, with status lines if they are asked for
 abbrev pub run_outcome : Description → (status : Bool) → State → Delivery → Outcome
 run_outcome stack status state delivered = with_status stack status (requests_outcome stack state delivered)

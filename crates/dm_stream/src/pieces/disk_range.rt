@@ -1,6 +1,6 @@
 //! Ranges of a disk that are read or written, as most pieces are.
 //!
-//! Both kinds go one way: which of them comes next is not foreseen by the processor.
+//! Reads and writes share one code path, because the processor can't predict which of the two comes next.
 
 ghost use Rattle.dm_stream.specs.Prelude.{Some, MatchOption, Description, IsOnDisk, disk_unit, first_unit, units_in, units_of, Fits, IsHeld, IsNoRange, piece_of, is_after};
 ghost use Rattle.std.specs.Prelude.{◌≡◌, ◌+◌, ◌≤◌, ◌==◌};
@@ -11,7 +11,7 @@ use dm_map::{Home, Piece};
 use dm_stack::DiskId;
 use dm_table::Op;
 
-/// Consecutive sectors of a disk, and the letter of what is done at them.
+/// Consecutive sectors of a disk, and the letter that says whether they are read or written.
 #[derive(Clone, Copy, Drop)]
 pub(crate) struct DiskRange {
     pub(crate) letter: Letter,
@@ -21,7 +21,7 @@ pub(crate) struct DiskRange {
 }
 
 impl DiskRange {
-    /// The range of a read or a write, which no other piece has.
+    /// The range of a read or a write; None for any other piece.
     #[inline(always)]
     pub(crate) fn of(piece: &Piece) -> Option<DiskRange>
         ensures { MatchOption result (IsNoRange piece.now) (λ range. piece.now ≡ piece_of range) }
@@ -39,7 +39,7 @@ impl DiskRange {
         }
     }
 
-    /// The range of sectors of a request that lie in a row on a disk.
+    /// The range of a request whose sectors are consecutive on one disk.
     #[inline(always)]
     pub(crate) fn at(op: Op, home: Home, len: u64) -> DiskRange
         ensures units { units_of (piece_of result) ≡ units_in (disk_unit op home.disk home.start) len }
@@ -54,7 +54,7 @@ impl DiskRange {
         }
     }
 
-    /// Whether another range continues this one.
+    /// Whether the range `next` continues this one.
     #[inline(always)]
     pub(crate) fn goes_on(&self, next: &DiskRange) -> bool
         ensures { result ≡ is_after (first_unit (piece_of self.now)) self.now.len
@@ -72,7 +72,7 @@ impl DiskRange {
         ensures first { first_unit (piece_of result) ≡ first_unit (piece_of self.now) }
         ensures len { result.len ≡ self.now.len + more }
     {
-        // A stack is sound by its type, so no disk of it is too long for the sum.
+        // A `Stack` is sound, so its disks are short enough that the sum can't overflow.
         disks.recall_soundness();
         DiskRange {
             len: self.len + more,

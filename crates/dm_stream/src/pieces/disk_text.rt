@@ -1,11 +1,11 @@
-//! The name of a disk as lines have it: with a space after it, and in lines of reads and writes a letter and a
-//! space before it.
+//! The name of a disk as lines write it: with a space after it, and in lines of reads and writes a letter and a space
+//! before it.
 //!
-//! A name is mostly short, and then an array of a fixed size is copied, past the end of its text.
+//! Names are mostly short, and then an array of fixed size is copied, beyond the end of the text.
 //!
 //! This is here for speed alone: RESULTS.md has its gain as *letter and disk's name in one array* and *texts kept
-//! ready*. It rests on an array that is longer than a short text, and on a block with space after it. Change it only
-//! if you measure small requests, and large ones over 16 columns, before and after.
+//! ready*. It relies on an array that is longer than a short text, and on space behind the text in the block. Change
+//! it only if you measure small requests, and large ones over 16 columns, before and after.
 
 ghost use Rattle.dm_stream.specs.Prelude.{length, take, IsPut, code, disk_text, line_head};
 ghost use Rattle.std.specs.Prelude.{◌≡◌, ◌∷◌, ◌+◌, ◌≤◌};
@@ -14,20 +14,20 @@ use crate::pieces::letter::Letter;
 use dm_table::{DiskName, put_array, put_bytes};
 use std::marker::Model;
 
-/// The bytes of the longest text: those of a name, and a space.
+/// The bytes of the longest text: a name of 255 bytes and a space.
 const TEXT_BYTES: usize = 256;
 
-/// The bytes that are copied of a short text.
+/// How many bytes are copied for a short text, with its letter.
 const SHORT: usize = 32;
 
-/// The letters of reads and of writes.
+/// The letters of reads and of writes, in this order.
 const LETTERS: [u8; 2] = [b'R', b'W'];
 
-/// The name of a disk and a space. A clause sees these bytes.
+/// The name of a disk and a space. In contracts, its value is these bytes.
 #[derive(Drop)]
 pub(crate) struct DiskText {
     len: usize,
-    /// What lines of reads and of writes have of it, if it is short.
+    /// The text with a letter and a space before it, for reads and for writes, if it is short.
     heads: [[u8; SHORT]; 2],
     text: [u8; TEXT_BYTES],
 }
@@ -46,7 +46,7 @@ impl Model for DiskText {
 }
 
 impl DiskText {
-    /// The text of a name.
+    /// The text of a disk's name.
     pub(crate) fn new(name: &DiskName) -> DiskText
         ensures { result ≡ disk_text name.now }
     {
@@ -60,8 +60,8 @@ impl DiskText {
         DiskText { len, heads, text }
     }
 
-    /// Puts the name and the space at an offset of a block, and returns where they end. The block has
-    /// 256 bytes from there on.
+    /// Puts the name and the space at offset `at` of a block, and returns where they end. The block has at least 256
+    /// bytes from there on.
     #[inline(always)]
     pub(crate) fn put_into(&self, block: &mut [u8], at: usize) -> usize
         requires { at + TEXT_BYTES ≤ length block.old }
@@ -77,8 +77,8 @@ impl DiskText {
         put_array(block, at, array, self.len)
     }
 
-    /// Puts what lines of reads or of writes have of it, a letter and a space before the name, at an
-    /// offset of a block, and returns where they end. The block has 258 bytes from there on.
+    /// Puts a letter, a space, the name and a space at offset `at` of a block, as lines of reads and writes have
+    /// them, and returns where they end. The block has at least 258 bytes from there on.
     #[inline(always)]
     pub(crate) fn put_head(&self, block: &mut [u8], at: usize, letter: Letter) -> usize
         requires { at + TEXT_BYTES + 2 ≤ length block.old }
@@ -92,7 +92,7 @@ impl DiskText {
     }
 }
 
-/// A letter, a space and a text at the front of an array, if they fit.
+/// A letter, a space and a text at the front of an array; only spaces if they don't fit.
 fn short_head(letter: u8, text: &[u8]) -> [u8; SHORT]
     ensures { length text.now ≤ 30
         → take (length text.now + 2) result ≡ letter ∷ code " " ∷ text.now }
@@ -105,7 +105,7 @@ fn short_head(letter: u8, text: &[u8]) -> [u8; SHORT]
     head
 }
 
-/// Puts the first bytes of a text at an offset of a block. It is never inlined, since long names are rare.
+/// Puts the first `len` bytes of a text at an offset of a block. Never inlined, because long names are rare.
 #[cold]
 #[inline(never)]
 fn put_long(block: &mut [u8], at: usize, text: &[u8], len: usize) -> usize
@@ -116,7 +116,8 @@ fn put_long(block: &mut [u8], at: usize, text: &[u8], len: usize) -> usize
     put_bytes(block, at, &text[..len])
 }
 
-/// Puts a letter, a space and the first bytes of a long text at an offset of a block.
+/// Puts a letter, a space and the first `len` bytes of a text at an offset of a block. Never inlined, because long
+/// names are rare.
 #[cold]
 #[inline(never)]
 fn put_long_head(block: &mut [u8], at: usize, letter: Letter, text: &[u8], len: usize) -> usize

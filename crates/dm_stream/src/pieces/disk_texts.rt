@@ -1,7 +1,7 @@
-//! The names of a stack's disks as lines have them.
+//! The names of a stack's disks as lines write them.
 //!
-//! Disks are few and lines come by the hundreds of millions, so these texts are made once, before a run. They are
-//! apart from the stack, since only a run writes lines, and from the run, since that takes no memory.
+//! There are few disks and hundreds of millions of lines, so these texts are made once, before a run. They aren't
+//! part of the stack, because only a run writes lines, nor of the run, because a run allocates nothing.
 
 ghost use Rattle.dm_stream.specs.Prelude.{IfOk, length, map, disk_name_at, IsSound, disk_text};
 ghost use Rattle.std.specs.Prelude.{◌≡◌, ◌<◌};
@@ -12,7 +12,7 @@ use dm_table::{Disk, Reserved};
 use std::alloc::{AllocError, Global};
 use std::marker::Model;
 
-/// A stack, with the texts of its disks' names. A clause sees the stack.
+/// A stack, with the texts of its disks' names. In contracts, its value is the stack.
 #[derive(Drop)]
 pub struct DiskTexts<'s> {
     stack: &'s Stack,
@@ -46,7 +46,7 @@ impl<'s> DiskTexts<'s> {
         })
     }
 
-    /// Recalls that the stack is sound. It does nothing: its contract is what is asked of it.
+    /// Recalls that the stack is sound. It does nothing at run time; callers need its contract.
     #[inline(always)]
     pub(crate) fn recall_soundness(&self)
         ensures { IsSound self.now }
@@ -54,7 +54,7 @@ impl<'s> DiskTexts<'s> {
         self.stack.depth();
     }
 
-    /// The text of the name of a disk of the stack.
+    /// The text of the name of a disk of this stack.
     #[inline(always)]
     pub(crate) fn of(&self, disk: DiskId) -> &DiskText
         requires { disk < length self.now.disks }
@@ -64,7 +64,7 @@ impl<'s> DiskTexts<'s> {
     }
 }
 
-/// The text of each disk's name, in their order.
+/// The texts of the disks' names, in the order of the disks.
 fn texts_of(alloc: Global, disks: &[Disk]) -> Result<Vec<DiskText>, AllocError>
     ensures { IfOk result (λ texts. texts.items ≡ map (λ disk. disk_text disk.name) disks.now) }
 {

@@ -1,5 +1,5 @@
-//! What the lines of pieces without a disk begin with after the number: a word and a space, which are
-//! copied as one array, as *texts kept ready* of RESULTS.md are.
+//! The word and space that follow the request's number in the line of a piece without a disk. They are copied as one
+//! array, like the *texts kept ready* of RESULTS.md.
 
 ghost use Rattle.dm_stream.specs.Prelude.{length, IsPut, first_unit, IsDiskless, diskless_word};
 ghost use Rattle.std.specs.Prelude.{◌≡◌, ◌+◌, ◌≤◌};
@@ -8,10 +8,10 @@ use dm_map::Piece;
 use dm_table::put_bytes;
 use std::marker::Model;
 
-/// The bytes of one: the longest word, a space, and what makes the copy cheap.
+/// The bytes of the array: the longest word, a space, and padding that makes the copy cheap.
 const WORD_BYTES: usize = 8;
 
-/// A word and a space, at the front of an array. A clause sees these bytes.
+/// A word and a space, at the front of an array. In contracts, its value is these bytes.
 #[derive(Drop)]
 pub(crate) struct DisklessWord {
     bytes: [u8; WORD_BYTES],
@@ -52,7 +52,7 @@ impl DisklessWord {
         }
     }
 
-    /// Puts the word and the space at an offset in a block, and returns where they end.
+    /// Puts the word and the space at offset `at` of a block, and returns where they end.
     #[inline(always)]
     pub(crate) fn put_into(&self, block: &mut [u8], at: usize) -> usize
         requires { at + WORD_BYTES ≤ length block.old }

@@ -1,12 +1,12 @@
-//! The piece that a join holds back, since the next one may continue it.
+//! The piece that a join holds back, because the next piece may continue it.
 //!
-//! Its invariant keeps it on the disks of the stack, so that its line can always be written. For a
-//! new kind of piece, say here when one continues another.
+//! Its invariant keeps it on the disks of the stack, so that its line can always be written. For a new kind of piece,
+//! define here when one continues another.
 //!
-//! Ranges are held apart from other pieces, and rows and whole answers have ways in of their own, for speed alone:
-//! RESULTS.md has the gain as *legs on disks in one go* and *a range that lies on one disk is returned and written
-//! at once*. All that rests on `AreApart`: a range and another piece are never held together. Change it only if you
-//! measure small requests, and requests over stripes, before and after.
+//! Ranges are held apart from other pieces, and rows of legs and whole answers have methods of their own, for speed
+//! alone: RESULTS.md has the gain as *legs on disks in one go* and *a range that lies on one disk is returned and
+//! written at once*. All that relies on `AreApart`: a range and another piece are never held together. Change it only
+//! if you measure small requests, and requests over stripes, before and after.
 
 ghost use Rattle.dm_stream.specs.Prelude.{OnTrue, OnFalse, IfOk, List, OnErr, OnOk, Some, None, fault_of, BlockUnit, IsOnDisks, diskless_len, first_unit, piece_len, units_of, HasWritten, Wrote, HasLeft, HasTaken, Fits, HoldsNoRange, IsHeld, IsNoRange, goes_on, held_diskless, held_units, holding, piece_of, pieces_text, fewest, is_after};
 ghost use Rattle.std.specs.Prelude.{◌≡◌, ◌+◌, ◌-◌, ◌≤◌, ◌++◌, ◌^◌};
@@ -21,7 +21,7 @@ use dm_map::Piece;
 use dm_table::{OutFault, Output};
 use std::marker::Model;
 
-/// At most one piece of a request to a stack's devices, under the request's number.
+/// At most one piece of a request to a stack's devices, with the request's number.
 #[derive(Drop)]
 pub(crate) struct HeldPiece<'s> {
     disks: &'s DiskTexts<'s>,
@@ -29,9 +29,9 @@ pub(crate) struct HeldPiece<'s> {
     range: Option<DiskRange>,
     /// The piece of another kind that is held, if one is.
     other: Option<Piece>,
-    /// What each line begins with: the request's number.
+    /// The request's number, as each of its lines begins with it.
     prefix: NumberPrefix,
-    /// What the line of a range ended with that was written last.
+    /// The start and length of the range that was written last, as text.
     text: RangeText,
     ends: LineEnds,
 }
@@ -52,7 +52,7 @@ impl<'s> Model for HeldPiece<'s> {
 }
 
 impl<'s> HeldPiece<'s> {
-    /// No piece, under the number 0.
+    /// Holds no piece, and has the request number 0.
     pub(crate) fn new(disks: &'s DiskTexts<'s>) -> HeldPiece<'s>
         ensures { result ≡ record { stack = disks.now; number = 0; piece = None } }
     {
@@ -66,7 +66,7 @@ impl<'s> HeldPiece<'s> {
         }
     }
 
-    /// Sets the number of the request.
+    /// Sets the number of the request whose pieces come next.
     #[inline(always)]
     pub(crate) fn set_number(&mut self, number: u64)
         ensures { self.new ≡ record { stack = self.old.stack; number = number; piece = self.old.piece } }
@@ -74,8 +74,8 @@ impl<'s> HeldPiece<'s> {
         self.prefix.set(number);
     }
 
-    /// Lengthens the held piece by one that continues it. Returns false, and changes nothing, if
-    /// none is held or the piece does not continue it.
+    /// Lengthens the held piece by one that continues it. Returns false, and changes nothing, if no piece is held or
+    /// the new one doesn't continue it.
     #[inline(always)]
     pub(crate) fn lengthen(&mut self, piece: &Piece) -> bool
         requires some { 1 ≤ piece_len piece.now }
@@ -88,7 +88,7 @@ impl<'s> HeldPiece<'s> {
         ensures others { OnTrue result ((self.new.stack ≡ self.old.stack)
             × (self.new.number ≡ self.old.number)) }
         ensures same { OnFalse result (self.new ≡ self.old) }
-        // Whatever units follow, the held piece is complete.
+        // If the new piece doesn't continue it, the held piece is complete, whatever units follow.
         ensures apart { OnFalse result ((rest : List BlockUnit)
             → fewest (held_units self.old.piece ++ units_of piece.now ++ rest)
             ≡ fewest (held_units self.old.piece) ++ fewest (units_of piece.now ++ rest)) }
@@ -138,7 +138,7 @@ impl<'s> HeldPiece<'s> {
             ≡ record { stack = self.old.stack; number = self.old.number; piece = None }) }
     {
         if let Some(range) = &self.range {
-            // It stays until the next piece is there, so that it isn't cleared in between.
+            // The old range stays until the next piece replaces it, so that the field isn't cleared in between.
             self.text.note(range.start, range.len);
             if let Err(fault) = put_range(
                 writer,
@@ -164,8 +164,8 @@ impl<'s> HeldPiece<'s> {
         Ok(())
     }
 
-    /// Gives out the range to hold after the held piece and a range, and holds none. The held piece is
-    /// written, unless the range continues it; if that fails, neither is held.
+    /// Returns the range to hold after the held piece and the range `next`, and holds none. The held piece is
+    /// written, unless `next` continues it; if that fails, neither is held.
     #[inline(always)]
     pub(crate) fn first_of_row<W: Output>(
         &mut self,
@@ -194,8 +194,8 @@ impl<'s> HeldPiece<'s> {
         }
     }
 
-    /// Gives out the range to hold after a range that was given out and another one: both as one, or the
-    /// other one, after the first was written. If that fails, neither is held.
+    /// Returns the range to hold after `range` and `next`: both as one if `next` continues `range`, or else `next`,
+    /// after `range` was written. If that fails, neither is held.
     #[inline(always)]
     pub(crate) fn next_of_row<W: Output>(
         &mut self,
@@ -230,7 +230,7 @@ impl<'s> HeldPiece<'s> {
         Ok(next)
     }
 
-    /// Holds a range that was given out.
+    /// Holds a range that `first_of_row` or `next_of_row` returned.
     #[inline(always)]
     pub(crate) fn hold(&mut self, range: DiskRange)
         requires nothing { self.old.piece ≡ None }
@@ -240,7 +240,7 @@ impl<'s> HeldPiece<'s> {
         self.range = Some(range);
     }
 
-    /// Writes the line of the held piece, which is then held no longer. Writes nothing if none is held.
+    /// Writes the line of the held piece, which is no longer held then. Writes nothing if none is held.
     #[inline(always)]
     pub(crate) fn write<W: Output>(&mut self, writer: &mut W) -> Result<(), OutFault>
         ensures wrote { Wrote (W.past writer.old) (W.past writer.new) result
@@ -264,7 +264,7 @@ impl<'s> HeldPiece<'s> {
         self.write_other(writer)
     }
 
-    /// Writes the line of the held piece, if that is no range of a disk.
+    /// Writes the line of the held piece, which is neither a read nor a write. Writes nothing if none is held.
     #[inline(always)]
     fn write_other<W: Output>(&mut self, writer: &mut W) -> Result<(), OutFault>
         requires { HoldsNoRange self.old.piece }
@@ -281,7 +281,7 @@ impl<'s> HeldPiece<'s> {
         wrote
     }
 
-    /// Writes the line of a range that is all of a request's answer, so that nothing is held.
+    /// Writes the line of a range that is the whole answer to a request, so that nothing needs to be held.
     #[inline(always)]
     pub(crate) fn write_range<W: Output>(
         &self,
@@ -292,13 +292,13 @@ impl<'s> HeldPiece<'s> {
         ensures { Wrote (W.past writer.old) (W.past writer.new) result
             (pieces_text self.now.stack self.now.number (fewest (units_of (piece_of range.now)))) }
     {
-        // The next range isn't likely to be the same, so none is noted.
+        // The next request's range is unlikely to be the same, so no text is kept for it.
         let none = RangeText::new();
         put_range(writer, &self.prefix, &self.ends, &none, self.disks, range)
     }
 }
 
-/// Whether the second piece continues the first, of which neither is a range.
+/// Whether the second piece continues the first; neither is a read or a write.
 #[inline(always)]
 fn goes_on(held: &Piece, piece: &Piece) -> bool
     requires held { IsNoRange held.now }
@@ -337,7 +337,7 @@ fn longer(disks: &DiskTexts<'_>, held: &Piece, more: u64) -> Piece
     ensures len { piece_len result ≡ piece_len held.now + more }
     ensures lies { IsOnDisks disks.now result }
 {
-    // A stack is sound by its type, so no disk of it is too long for the sum.
+    // A `Stack` is sound, so its disks are short enough that the sum can't overflow.
     disks.recall_soundness();
     held.with_len(held.len() + more)
 }

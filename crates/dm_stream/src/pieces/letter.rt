@@ -1,16 +1,16 @@
 //! The letters of reads and writes.
 //!
-//! They are here for speed alone, as an `Op` says the same: RESULTS.md has the gain as *letter and disk's name in
-//! one array*. Measure small requests before and after a change.
+//! They are here for speed alone, because an `Op` says the same: RESULTS.md has the gain as *letter and disk's name
+//! in one array*. Measure small requests before and after a change.
 
 ghost use Rattle.dm_stream.specs.Prelude.{not};
 ghost use Rattle.std.specs.Prelude.{◌≡◌, if◌then◌else◌};
 
 use std::marker::Model;
 
-/// The letter of a write, or else of a read. A clause sees whether it is that of a write.
+/// The letter of a write or of a read. In contracts, its value says whether it is that of a write.
 ///
-/// It is kept as a whole word, 1 or 0: around a byte, bytes would be cleared each time that one is kept.
+/// It is kept as a whole word, 1 or 0, because around a single byte the bytes beside it would be cleared at each store.
 #[derive(Clone, Copy, Drop)]
 pub(crate) struct Letter {
     word: u64,
@@ -30,7 +30,7 @@ impl Model for Letter {
 }
 
 impl Letter {
-    /// The letter of a write, or of a read.
+    /// The letter of a write, or else of a read.
     #[inline(always)]
     pub(crate) fn new(is_write: bool) -> Letter
         ensures { result ≡ is_write }
@@ -40,7 +40,7 @@ impl Letter {
         }
     }
 
-    /// 1 for that of a write, or else 0.
+    /// The letter's index in an array: 1 for a write, 0 for a read.
     #[inline(always)]
     pub(crate) fn index(self) -> usize
         ensures { result ≡ (if self then 1 else 0) }
@@ -48,7 +48,7 @@ impl Letter {
         self.word as usize
     }
 
-    /// Whether another one is the same.
+    /// Whether both letters are the same.
     #[inline(always)]
     pub(crate) fn is(self, other: Letter) -> bool
         ensures { result ≡ (if self then other else not other) }

@@ -1,9 +1,9 @@
-//! Ends of lines: short lengths with the newline after them, made once and then copied whole.
+//! Ends of lines: short lengths with their newline, made once and then copied whole.
 //!
-//! Most requests have fewer than 1,000 sectors, and no jump depends on how many digits a length has
-//! that is copied from here.
+//! Most requests have fewer than 1,000 sectors. Copying from here needs no jump that depends on how many digits the
+//! length has.
 //!
-//! This is here for speed alone: RESULTS.md has its gain as *texts kept ready*. It rests on the table that `new`
+//! This is here for speed alone: RESULTS.md has its gain as *texts kept ready*. It relies on the table that `new`
 //! makes. Change it only if you measure small requests, and large ones over 16 columns, before and after.
 
 ghost use Rattle.dm_stream.specs.Base.{[], decimal, length, IsPut, code};
@@ -13,13 +13,13 @@ ghost use Rattle.std.specs.Prelude.{◌≡◌, ◌+◌, ◌++◌, ◌∷◌, ◌
 
 use dm_table::{put_bytes, put_digits};
 
-/// The bytes of the longest end: those of a length, and a newline.
+/// The bytes of the longest line end: a length of 20 digits and a newline.
 const LONGEST: usize = 21;
 
-/// How many lengths have a text.
+/// How many lengths have a text in the table.
 const LENGTHS: usize = 1000;
 
-/// The bytes of an end: three digits, a newline, and how many bytes these are as the last.
+/// The bytes of a table entry: up to three digits and a newline, and in the last byte how many bytes these are.
 const END_BYTES: usize = 8;
 
 /// The ends of lines of each length below 1,000.
@@ -30,7 +30,7 @@ pub(crate) struct LineEnds {
 }
 
 impl LineEnds {
-    /// Each as text.
+    /// Makes the table of line ends.
     pub(crate) fn new() -> LineEnds {
         let mut ends = [[b' '; END_BYTES]; LENGTHS];
         let mut len = 0;
@@ -41,7 +41,7 @@ impl LineEnds {
         LineEnds { ends }
     }
 
-    /// Puts the end of a line of this length at an offset in a block, and returns where it ends.
+    /// Puts a length and a newline at offset `at` of a block, and returns where they end.
     #[inline(always)]
     pub(crate) fn put_into(&self, block: &mut [u8], at: usize, len: u64) -> usize
         requires { at + LONGEST ≤ length block.old }
@@ -55,8 +55,7 @@ impl LineEnds {
         put_bytes(block, at, b"\n")
     }
 
-    /// Puts a length and the space that follows it inside of a line at an offset in a block, and returns where they
-    /// end.
+    /// Puts a length and a space, for the middle of a line, at offset `at` of a block, and returns where they end.
     #[inline(always)]
     pub(crate) fn put_inside(&self, block: &mut [u8], at: usize, len: u64) -> usize
         requires { at + LONGEST ≤ length block.old }
@@ -64,11 +63,11 @@ impl LineEnds {
         ensures few { result ≤ at + LONGEST }
     {
         let end = self.put_into(block, at, len);
-        // In the place of the newline.
+        // The space replaces the newline.
         put_bytes(block, end - 1, b" ")
     }
 
-    /// Puts the end of a line of a short length, which was made before.
+    /// Puts a length below 1,000 and a newline, copied from the table.
     #[inline(always)]
     fn put_short(&self, block: &mut [u8], at: usize, len: u64) -> usize
         requires short { len < LENGTHS }
@@ -82,7 +81,7 @@ impl LineEnds {
     }
 }
 
-/// The end of a line of this length, at the front of its array.
+/// The table entry for a length below 1,000: its digits, a newline, and how many bytes these are.
 fn line_end(len: usize) -> [u8; END_BYTES]
     requires { len < LENGTHS }
     ensures { IsLineEnd len result }

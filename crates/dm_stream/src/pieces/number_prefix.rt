@@ -1,9 +1,8 @@
-//! What each line of a request begins with: its number and a space.
+//! What each line of a request begins with: the request's number and a space.
 //!
-//! The numbers of requests mostly rise by one, so if only the last digit differs it is changed in
-//! place. The array is copied whole.
+//! Request numbers mostly rise by one, so a change of only the last digit is made in place. The array is copied whole.
 //!
-//! This is here for speed alone: RESULTS.md has its gain as *texts kept ready*. It rests on the array always having
+//! This is here for speed alone: RESULTS.md has its gain as *texts kept ready*. It relies on the array always holding
 //! the text of its number. Change it only if you measure small requests before and after.
 
 ghost use Rattle.dm_stream.specs.Prelude.{length, take, IsPut, number_prefix};
@@ -12,7 +11,7 @@ ghost use Rattle.std.specs.Prelude.{◌≡◌, ◌+◌, ◌≤◌};
 use dm_table::{put_array, put_bytes, put_digits};
 use std::marker::Model;
 
-/// The bytes of a prefix: the digits of a number, a space, and what makes the copy cheap.
+/// The bytes of the array: a number of 20 digits, a space, and padding that makes the copy cheap.
 pub(crate) const PREFIX_BYTES: usize = 32;
 
 /// A number and a space as text, at the front of the array.
@@ -22,7 +21,7 @@ pub(crate) struct NumberPrefix {
     /// The number with 0 for its last digit.
     tens: u64,
     text: [u8; PREFIX_BYTES],
-    /// Where the text ends, two bytes after its last digit.
+    /// Where the text ends: two bytes after the offset of its last digit.
     end: usize,
 }
 
@@ -70,7 +69,7 @@ impl NumberPrefix {
         self.number = number;
     }
 
-    /// Puts the number and a space at an offset in a block, and returns where they end.
+    /// Puts the number and a space at offset `at` of a block, and returns where they end.
     #[inline(always)]
     pub(crate) fn put_into(&self, block: &mut [u8], at: usize) -> usize
         requires { at + PREFIX_BYTES ≤ length block.old }

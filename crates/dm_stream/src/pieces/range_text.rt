@@ -1,11 +1,11 @@
-//! The range that a line ends with: a start, a length and a newline.
+//! The range that ends a line: a start, a length and a newline.
 //!
-//! Over many columns the same range comes once for each column. Its text is kept as soon as it comes
-//! a second time, and then copied whole; a range after one that came again is kept at once. Any other
-//! has its digits written where they belong, and its end copied where its length is short.
+//! Over many columns, the same range comes once for each column. Its text is kept when it comes for the second time,
+//! and then copied whole; the range after one that was repeated is kept at once. For any other range, the digits are
+//! written where they belong, and the end of the line is copied if its length is short.
 //!
-//! This is here for speed alone: RESULTS.md has its gain as *the kept text of a range*. It rests on `note`, which
-//! is called before each line. Change it only if you measure large requests over 16 columns, and others that never
+//! This is here for speed alone: RESULTS.md has its gain as *the kept text of a range*. It relies on `note`, which is
+//! called before each line. Change it only if you measure large requests over 16 columns, and others that never
 //! repeat a range, before and after.
 
 ghost use Rattle.dm_stream.specs.Prelude.{ℕ, length, IsPut, range_text, IsKept};
@@ -15,10 +15,10 @@ use crate::pieces::line_ends::LineEnds;
 use dm_table::{put_array, put_bytes, put_digits};
 use std::marker::Model;
 
-/// The bytes of a range: two numbers, a space and a newline, and what makes the copy cheap.
+/// The bytes of the array: two numbers, a space, a newline, and padding that makes the copy cheap.
 const RANGE_BYTES: usize = 48;
 
-/// The range that came last, and its text if it came twice or is likely to.
+/// The range of the last line, and its text if the range was repeated or is likely to be.
 #[derive(Drop)]
 pub(crate) struct RangeText {
     start: u64,
@@ -26,7 +26,7 @@ pub(crate) struct RangeText {
     text: [u8; RANGE_BYTES],
     /// Where the text ends: 0 if none is kept.
     end: usize,
-    /// Whether the range came more than once.
+    /// Whether the range was repeated.
     came_again: bool,
 }
 
@@ -44,7 +44,7 @@ impl Model for RangeText {
 }
 
 impl RangeText {
-    /// None came yet.
+    /// No range yet, and no text.
     #[inline(always)]
     pub(crate) fn new() -> RangeText
         ensures kept { (start len : ℕ) → IsKept result start len }
@@ -58,8 +58,8 @@ impl RangeText {
         }
     }
 
-    /// Notes the range of the next line, and keeps its text if it came last, too, or if the one before it
-    /// came more than once. What is kept afterwards is that range.
+    /// Notes the range of the next line. Its text is kept if the line before had the same range, or if the range
+    /// before it was repeated. What is kept afterwards is the text of this range.
     #[inline(always)]
     pub(crate) fn note(&mut self, start: u64, len: u64)
         ensures kept { IsKept self.new start len }
@@ -79,7 +79,7 @@ impl RangeText {
         }
     }
 
-    /// Keeps the text of a range. It is never inlined, since it is rare.
+    /// Keeps the text of a range. Never inlined, because it is rare.
     #[inline(never)]
     fn keep(&mut self, start: u64, len: u64)
         ensures { self.new ≡ range_text start len }
@@ -89,7 +89,7 @@ impl RangeText {
         self.end = put_range(&mut self.text, 0, start, len);
     }
 
-    /// Puts a range at an offset in a block, and returns where it ends. If a text is kept, it is that of the range.
+    /// Puts a range at offset `at` of a block, and returns where it ends. If a text is kept, it is that of this range.
     #[inline(always)]
     pub(crate) fn put_into(
         &self,
@@ -111,8 +111,8 @@ impl RangeText {
     }
 }
 
-/// Puts a start, a length and a newline at an offset in a block, and returns where they end. The end of a
-/// short line is copied.
+/// Puts a start, a length and a newline at offset `at` of a block, and returns where they end. A short length and its
+/// newline are copied from `ends`.
 #[inline(never)]
 fn put_next_range(ends: &LineEnds, block: &mut [u8], at: usize, start: u64, len: u64) -> usize
     requires { at + RANGE_BYTES ≤ length block.old }
@@ -124,7 +124,7 @@ fn put_next_range(ends: &LineEnds, block: &mut [u8], at: usize, start: u64, len:
     ends.put_into(block, at, len)
 }
 
-/// Puts a start, a length and a newline, whose end wasn't made before.
+/// Puts a start, a length and a newline, all digit by digit.
 #[inline(never)]
 fn put_range(block: &mut [u8], at: usize, start: u64, len: u64) -> usize
     requires { at + RANGE_BYTES ≤ length block.old }

@@ -1,12 +1,12 @@
 //! Requests that are answered in batches, so that their waits for memory overlap.
 //!
-//! Over long tables an answer spends most of its time waiting for memory. So the requests at the front of the
-//! held bytes are all read, the handler is told of them, and only then is the first one answered. No input is
-//! read in between, so no answer goes out later than it would one by one.
+//! Over long tables, most of an answer's time is waiting for memory. So all requests at the front of the held bytes
+//! are parsed, the handler is told of them, and only then is the first one answered. The input isn't read in between,
+//! so no answer is later than it would be one by one.
 //!
-//! This is here for speed alone: RESULTS.md has its gain as *batches and reading ahead*. It rests on `front`, and on
-//! `Handler::prefetch` answering nothing. Change it only if you measure random requests on 65,536 lines, random
-//! first writes, and requests in a row, before and after.
+//! This is here for speed alone: RESULTS.md has its gain as *batches and reading ahead*. It relies on `front`, and on
+//! `Handler::prefetch` answering nothing. Change it only if you measure random requests on 65,536 lines, random first
+//! writes, and consecutive requests, before and after.
 
 ghost use Rattle.dm_stream.specs.Prelude.{[], length, drop, IfErr, OnOk, Some, All, AnswersFronts, AreFirst, front_requests, device_of, IsAmong};
 ghost use Rattle.dm_stream.specs.declared.requests.handling.TheConstants.{MOST_REQUESTS};
@@ -20,15 +20,15 @@ use dm_stack::Stack;
 /// The most requests of a batch.
 pub(crate) const MOST_FRONTS: usize = 16;
 
-/// How many requests were answered, and how many bytes their lines have.
+/// How many requests were answered, and how many bytes their lines have, with the newlines.
 #[derive(Drop)]
 pub(crate) struct Answered {
     pub(crate) count: u64,
     pub(crate) len: usize,
 }
 
-/// Answers the requests at the front of the held bytes that are quickly read, after `done` others, if they are read in
-/// batches.
+/// Answers as a batch, if `batches` is true, the requests at the front of the held bytes that `front_of` parses.
+/// `done` requests came before them.
 #[inline(always)]
 pub(crate) fn answer_in_batches<H: Handler>(
     batches: bool,
@@ -50,7 +50,7 @@ pub(crate) fn answer_in_batches<H: Handler>(
     }
 }
 
-/// Answers a batch of the requests at the front of the held bytes, after `done` others.
+/// Answers a batch of the requests at the front of the held bytes; `done` requests came before them.
 #[inline(never)]
 fn answer_batch<H: Handler>(
     stack: &Stack,
@@ -76,8 +76,8 @@ fn answer_batch<H: Handler>(
     })
 }
 
-/// Reads the requests at the front of the held bytes, after `done` others, as long as they are quickly read. It
-/// returns how many bytes their lines have.
+/// Parses the requests at the front of the held bytes, as long as `front_of` does, up to `MOST_FRONTS`. `done`
+/// requests came before them. Returns how many bytes their lines have.
 fn read_fronts<'a>(
     stack: &Stack,
     held: &'a [u8],

@@ -1,20 +1,20 @@
 //! Requests together with the output of their answers: when the next requests may be read.
 //!
-//! Whoever sends requests may wait for an answer before the next one. So nothing may be read while the output
-//! keeps an answer back, and each read requires that. Code that is generic over the requests has no other way to
-//! read them.
+//! Whoever sends requests may wait for an answer before sending the next one. So nothing may be read while the output
+//! holds an answer back, and each read requires that it doesn't. Code that is generic over the requests has no other
+//! way to read them.
 
 ghost use Rattle.dm_stream.specs.Base.{length, IfOk, InputPast, after_read};
 ghost use Rattle.std.specs.Prelude.{◌≡◌, ◌≤◌};
 
 use dm_table::{InFault, Input, Output};
 
-/// Requests that are read while their answers go to an output.
+/// Requests that are read while their answers are written to an output.
 pub trait Exchange<W: Output> {
-    /// What the requests did so far, as of any input.
+    /// What the requests delivered so far, as for any input.
     ghost past: { Self → InputPast };
 
-    /// Reads as an input does. It may have to wait, so no answer is kept back.
+    /// Reads like an input. The read may wait, so the output must hold no answer back.
     fn read(&mut self, answers: &W, buffer: &mut [u8]) -> Result<usize, InFault>
         requires { W.is_out answers.now }
         ensures within { IfOk result (λ n. n ≤ length buffer.new) }

@@ -1,7 +1,7 @@
-//! From the bytes of an input to its requests, line by line, handed on to whoever answers them.
+//! From the bytes of an input to its requests, line by line, handed to whoever answers them.
 //!
-//! What is handed on depends on the bytes and ends that the input delivered, and on nothing else. A
-//! new check of a line goes into `request_of`, in the order in which `specs/requests/Requests.antt` has it.
+//! What is handed on depends only on the bytes and ends that the input delivered. A new check of a line goes into
+//! `request_of`, in the order of `specs/requests/Requests.antt`.
 
 ghost use Rattle.dm_stream.specs.Prelude.{[], length, take, drop, Ok, Some, IfOk, IfErr, IfSome, OnErr, OnOk, Description, delivery, IsReadOn, MetNothing, line_parts, HasMet, IsAmong, Requests, after_requests, is_bad, line_requests, numbered, requests_of, word_for};
 ghost use Rattle.std.specs.Prelude.{◌≡◌, ◌≢◌, ◌+◌, ◌<◌, ◌≤◌, ◌∷◌};
@@ -17,7 +17,7 @@ use dm_table::{Request, RequestFault, parse_request};
 /// The most requests of a run.
 pub const MOST_REQUESTS: u64 = 1_000_000_000_000;
 
-/// The word for a line that is no request.
+/// The word that reports why a line is no request.
 fn word_of(fault: RequestFault) -> RequestWord
     ensures { result ≡ word_for fault }
 {
@@ -28,7 +28,7 @@ fn word_of(fault: RequestFault) -> RequestWord
     }
 }
 
-/// The request of the line of this number, or the word by which the line is bad.
+/// The request of line `number`, or the word for what is wrong with the line.
 fn request_of(line: &[u8], number: u64) -> Result<Request<'_>, RequestWord>
     ensures good { IfOk result
         (λ request. (rest : Requests) → line_requests number line.now rest
@@ -46,7 +46,7 @@ fn request_of(line: &[u8], number: u64) -> Result<Request<'_>, RequestWord>
     }
 }
 
-/// Lets the handler know of a read that may wait: one comes where no newline is held.
+/// Tells the handler that the next read may wait, if no newline is held.
 fn before_read<Q, H: HandlesFrom<Q>>(handler: &mut H, lines: &Lines)
     ensures answered { (stack : Description) (source : H.Source)
         → H.answered stack handler.old source [] handler.new source }
@@ -59,7 +59,7 @@ fn before_read<Q, H: HandlesFrom<Q>>(handler: &mut H, lines: &Lines)
     }
 }
 
-/// Looks up the device of a request, and hands both on.
+/// Looks up the device of a request, and hands both to the handler.
 #[inline(never)]
 fn handle_named<H: Handler>(
     stack: &Stack,
@@ -78,14 +78,15 @@ fn handle_named<H: Handler>(
     handler.handle(stack, source, request, device)
 }
 
-/// Hands requests to the devices of a stack on, one after the other, up to the first bad line, an end or a fault.
+/// Hands requests to the devices of a stack to the handler, one after the other, up to the first bad line, the end or
+/// a fault.
 ///
-/// `Ok` says which of these it was; all requests before it were answered. Cost: time linear in the
-/// bytes read, plus what the handler takes for each request. No memory is taken.
+/// `Ok` says which of these it was; all requests before it were answered. Cost: time linear in the bytes read, plus
+/// what the handler takes for each request. Allocates nothing.
 ///
 /// # Errors
 ///
-/// The fault with which the handler stopped at one of the requests. Nothing is read after that.
+/// The fault with which the handler stopped at a request. Nothing is read after that.
 #[inline(never)]
 pub fn handle_requests<Q, H: HandlesFrom<Q>>(
     stack: &Stack,
@@ -95,9 +96,9 @@ pub fn handle_requests<Q, H: HandlesFrom<Q>>(
 ) -> Result<Ending, H::Fault>
     requires { H.ready stack.now handler.old source.old }
     ensures moved { IsReadOn (H.asked requests.old) (H.asked requests.new) }
-    // Any read may fail or come to an end, so where neither was met none was asked for after the line.
+    // Any read may meet a fault or the end. So if neither was met, nothing was read after the bad line.
     ensures met { IfOk result (λ ending. HasMet ending (H.asked requests.old) (H.asked requests.new)) }
-    // All requests were answered, and they end by themselves.
+    // All requests were answered, and the ending is that of the requests themselves.
     ensures answered { IfOk result
         (λ ending. H.answered stack.now handler.old source.old
         (requests_of (delivery (H.asked requests.old) (H.asked requests.new))).all handler.new source.new) }
@@ -106,7 +107,7 @@ pub fn handle_requests<Q, H: HandlesFrom<Q>>(
         ≡ Some ending) }
     ensures no_write_fault { IfOk result (λ ending. ending ≢ Ending.WriteFault) }
     ensures ready { OnOk result (H.ready stack.now handler.new source.new) }
-    // The handler stopped at one of them.
+    // The handler stopped at one of the requests.
     ensures stopped { IfErr result
         (λ fault. IsAmong (λ first. H.stopped stack.now handler.old source.old first fault handler.new source.new)
         (requests_of (delivery (H.asked requests.old) (H.asked requests.new))).all) }

@@ -1,7 +1,6 @@
-//! The lines of an input, from a buffer that holds what was read and not yet returned.
-//! Clauses see only those bytes, so lines depend on the bytes and never on how reads cut them.
-//! No memory is taken, and the search for a newline continues where the last one stopped: each byte is
-//! searched once.
+//! The lines of an input, from a buffer that holds what was read and not yet returned. In contracts, its value is
+//! only those bytes, so lines never depend on how reads cut them. Nothing is allocated. The search for a newline
+//! continues where the last one stopped, so each byte is searched once.
 ghost use Rattle.dm_stream.specs.Prelude.{[], length, take, drop, IfOk, OnErr, OnTrue, OnFalse, sem, delivery, since, HasRead, IsReadOn, MetNothing};
 ghost use Rattle.std.specs.Io.BufRead.{Rests};
 ghost use Rattle.std.specs.Prelude.{◌≡◌, ◌+◌, ◌≤◌, ◌++◌, ◌≢◌, ◌∷◌};
@@ -17,22 +16,22 @@ pub const MOST_LINE_BYTES: usize = 4096;
 /// How many bytes the buffer has.
 const BUFFER_BYTES: usize = 65536;
 
-/// What comes next.
+/// What comes next in an input.
 #[derive(Clone, Copy, Debug, PartialEq, Eq)]
 pub enum Next<'a> {
     /// A line, without its newline.
     Line(&'a [u8]),
-    /// A clean end after the last newline.
+    /// The input ended cleanly after its last newline.
     End,
-    /// A clean end after bytes without a newline.
+    /// The input ended cleanly after bytes without a newline.
     Unended,
-    /// A line of more than 4,096 bytes, or more than that with no newline so far.
+    /// A line of more than 4,096 bytes, or that many bytes with no newline so far.
     Long,
-    /// The input failed before the next line was whole.
+    /// The input failed before the next line was complete.
     ReadFault,
 }
 
-/// What comes next, where a line is said by its length: the held bytes begin with it.
+/// What comes next in an input; a line is given by its length, because the held bytes begin with it.
 enum NextHeld {
     Line(usize),
     End,
@@ -41,7 +40,7 @@ enum NextHeld {
     ReadFault,
 }
 
-/// Lines of an input. Clauses see the bytes that were read and not yet returned.
+/// The lines of an input. In contracts, its value is the bytes that were read and not yet returned.
 #[derive(Drop)]
 pub struct Lines {
     buffer: [u8; BUFFER_BYTES],
@@ -66,7 +65,7 @@ impl Lines {
     ghost use Rattle.dm_stream.specs.requests.NextHeld.{held_answer, FitsIn, IsLook, OnHeldLine};
     ghost use Rattle.dm_stream.specs.contracts.requests.lines.Lines.{the_row};
 
-    /// Lines of an input that was not read yet.
+    /// The lines of an input that was not read yet.
     pub fn new() -> Lines
         ensures { result ≡ [] }
     {
@@ -86,7 +85,7 @@ impl Lines {
         &buffer[self.start..self.end]
     }
 
-    /// Whether a newline is held, so that the next line is there without a read.
+    /// Whether a newline is held, so that the next line needs no read.
     pub(crate) fn has_newline(&self) -> bool
         ensures held { OnTrue result (line_parts self.now ≢ self.now ∷ []) }
         ensures none { OnFalse result (line_parts self.now ≡ self.now ∷ []) }
@@ -94,7 +93,7 @@ impl Lines {
         line_len(self.held(), 0).is_some()
     }
 
-    /// Lets the first bytes go that are held.
+    /// Drops the first `len` held bytes.
     #[inline(always)]
     pub(crate) fn skip(&mut self, len: usize)
         requires { len ≤ length self.old }
@@ -110,7 +109,7 @@ impl Lines {
         self.end - self.start
     }
 
-    /// What the held bytes alone say, where the first `searched` of them have no newline.
+    /// What the held bytes alone settle, if the first `searched` of them have no newline.
     fn look(&self, searched: usize) -> Option<NextHeld>
         requires within { searched ≤ length self.now }
         requires clear { line_parts (take searched self.now) ≡ take searched self.now ∷ [] }
@@ -131,7 +130,7 @@ impl Lines {
         }
     }
 
-    /// Reads once, after the held bytes.
+    /// Reads once, behind the held bytes.
     fn fill<Q, H: ReadsFrom<Q>>(&mut self, requests: &mut Q, handler: &H) -> Result<usize, InFault>
         requires room { length self.old ≤ MOST_LINE_BYTES }
         requires out { H.is_out handler.now }
@@ -151,7 +150,7 @@ impl Lines {
         Ok(n)
     }
 
-    /// Reads until the held bytes settle what comes next. A line stays held.
+    /// Reads until the held bytes settle what comes next. A line that was found is still held.
     fn advance<Q, H: ReadsFrom<Q>>(&mut self, requests: &mut Q, handler: &H) -> NextHeld
         requires { line_parts self.old ≡ self.old ∷ [] → H.is_out handler.now }
         ensures reads { IsReadOn (H.asked requests.old) (H.asked requests.new) }
@@ -182,16 +181,16 @@ impl Lines {
         }
     }
 
-    /// The next line of an input, or why there is none. Only a line leaves the held bytes.
+    /// The next line of an input, or why there is none. Only a returned line is removed from the held bytes.
     ///
-    /// Cost: time linear in the bytes read, however they arrive. Takes no memory.
+    /// Cost: time linear in the bytes read, however they arrive. Allocates nothing.
     pub fn next<R: Input>(&mut self, input: &mut R) -> Next<'_>
         ensures* after { sem 𝓛 (Rests the_row self.entry (λ new.
             new ≡ left_of (answer_of result)
             (self.old ++ since (R.past input.old).handed (R.past input.new).handed))) }
         // Nothing is read after an end or a fault.
         ensures reads { IsReadOn (R.past input.old) (R.past input.new) }
-        // A line is returned, or is too long, before an end or a fault is met.
+        // If a line is returned or is too long, no end and no fault was met.
         ensures quiet { OnLine result (MetNothing (R.past input.old) (R.past input.new)) }
         ensures answer { answer_of result
             ≡ next_answer (delivery (R.past input.old) (R.past input.new)).stand
@@ -200,16 +199,16 @@ impl Lines {
         self.next_for(input, &Unanswered)
     }
 
-    /// The next line of requests that somebody answers, or why there is none.
+    /// The next line of requests that a handler answers, or why there is none.
     pub(crate) fn next_for<Q, H: ReadsFrom<Q>>(&mut self, requests: &mut Q, handler: &H) -> Next<'_>
-        // Nothing is read where a whole line is held, and else all answers are out.
+        // If no whole line is held, so that something is read, all answers are out.
         requires { line_parts self.old ≡ self.old ∷ [] → H.is_out handler.now }
         ensures* after { sem 𝓛 (Rests the_row self.entry (λ new.
             new ≡ left_of (answer_of result)
             (self.old ++ since (H.asked requests.old).handed (H.asked requests.new).handed))) }
         // Nothing is read after an end or a fault.
         ensures reads { IsReadOn (H.asked requests.old) (H.asked requests.new) }
-        // A line is returned, or is too long, before an end or a fault is met.
+        // If a line is returned or is too long, no end and no fault was met.
         ensures quiet { OnLine result (MetNothing (H.asked requests.old) (H.asked requests.new)) }
         ensures answer { answer_of result
             ≡ next_answer (delivery (H.asked requests.old) (H.asked requests.new)).stand

@@ -1,4 +1,4 @@
-//! Earlier requests: those that were carried out before a run, which leave the state that it starts from.
+//! Earlier requests: they were carried out before a run, and leave the state that it starts in.
 //!
 //! They are read like the requests of a run, and played through the same mapper, to a sink that does nothing.
 
@@ -16,20 +16,20 @@ use dm_stack::{DeviceId, Stack};
 use dm_table::{InFault, Input, Request};
 use std::marker::PhantomData;
 
-/// Why earlier requests were refused.
+/// Why earlier requests are refused.
 #[derive(Clone, Copy, Debug, PartialEq, Eq)]
 pub enum EarlierFault {
     /// The request of this number is bad.
     BadRequest(u64, RequestWord),
-    /// Reading them failed.
+    /// Reading earlier requests failed.
     Read,
 }
 
-/// Plays requests on the state of a mapper, and answers none.
+/// Plays requests on the state of a mapper, without answers.
 #[derive(Drop)]
 struct EarlierPlayer<'s, T> {
     discard: Discard<'s>,
-    /// What was read ahead of requests, added up: see `RequestMapper`.
+    /// The sum of what was read ahead of requests; see `RequestMapper` for why it is kept.
     prefetched: u64,
     taken: PhantomData<T>,
 }
@@ -89,7 +89,7 @@ impl<'s, T: Taken> Handler for EarlierPlayer<'s, T> {
     }
 }
 
-/// No answer is kept back, since there is none.
+/// Earlier requests have no answers, so none can be held back.
 impl<T: Taken, R: Input> ReadsFrom<R> for EarlierPlayer<'_, T> {
     ghost asked = { R.past };
 
@@ -104,29 +104,29 @@ impl<T: Taken, R: Input> HandlesFrom<R> for EarlierPlayer<'_, T> {
     fn before_read(&mut self) {}
 }
 
-/// Plays requests, line by line, and answers none: the mapper's state moves on as if they had been answered.
+/// Plays requests, line by line, without answers: the mapper's state changes as if they had been answered.
 ///
-/// The mapper is one of this stack and has not failed, and stays so. Nothing is read after a bad line, an end or
-/// a fault.
+/// The mapper is of this stack and has not failed, before and afterwards. No request is read after a bad line, the
+/// end or a fault.
 ///
-/// Cost: less than that of `run` over these requests, since nothing is joined or written. No memory is taken.
+/// Cost: less than that of `run` over the same requests, because nothing is joined or written. Allocates nothing.
 ///
 /// # Errors
 ///
 /// | Fault | When |
 /// |---|---|
 /// | `BadRequest` | the line of this number is bad |
-/// | `Read` | reading requests failed, and no line that was delivered before is bad |
+/// | `Read` | reading requests failed, and no line delivered before is bad |
 pub fn play_earlier<'s, T: Taken, R: Input>(
     stack: &'s Stack,
     mapper: &mut Mapper<'s, T>,
     requests: &mut R,
 ) -> Result<(), EarlierFault>
     requires { CanMap stack.now mapper.old }
-    // The mapper can go on. Requests are only read on, up to the first bad line, an end or a fault.
+    // The mapper can map more requests. No request is read after the first bad line, the end or a fault.
     ensures left { IsLeft mapper.old mapper.new (R.past requests.old) (R.past requests.new)
         (played_ending result) }
-    // What the requests delivered gives the state that is left, and how they end.
+    // The delivered requests determine the state that is left, and how they end.
     ensures played { HasPlayed (requests_outcome stack.now mapper.old.state
         (delivery (R.past requests.old) (R.past requests.new))) mapper.new.state result }
 {

@@ -1,35 +1,35 @@
 //! How a run over requests ends.
 //!
-//! Each word for a bad request is a variant, in the order of the checks; `message` writes
-//! them. A new word goes where its check is made.
+//! Each word for a bad request is a variant, in the order of the checks; `message` writes them. A new word goes where
+//! its check is made.
 
-/// What is wrong with a request, by the first check that finds it.
+/// What is wrong with a request: the first fault that a check finds.
 #[derive(Clone, Copy, Debug, PartialEq, Eq)]
 pub enum RequestWord {
-    /// More than 4,096 bytes without the newline.
+    /// The line has more than 4,096 bytes without its newline.
     Long,
-    /// A rest without a newline before a clean end.
+    /// The last line has no newline before a clean end.
     Unended,
-    /// The line after the last that is allowed.
+    /// The line is beyond the most requests of a run.
     Many,
-    /// Not four fields as a request has them.
+    /// The line isn't the four fields of a request.
     Form,
-    /// A start or a length that is no number.
+    /// The start or the length is no number.
     Number,
-    /// A length of 0, or above 1,048,576.
+    /// The length is 0, or above 1,048,576.
     Length,
-    /// No device of that name.
+    /// No device has that name.
     Unknown,
 }
 
 /// How a run ends.
 #[derive(Clone, Copy, Debug, PartialEq, Eq)]
 pub enum Ending {
-    /// All requests were answered, up to a clean end.
+    /// The requests ended cleanly, and all were answered.
     Done,
     /// The request of this number was bad; those before it were answered.
     BadRequest(u64, RequestWord),
-    /// Reading requests failed; those before it were answered.
+    /// Reading requests failed; those before the fault were answered.
     ReadFault,
     /// Writing or flushing the output failed.
     WriteFault,
@@ -38,7 +38,7 @@ pub enum Ending {
 /// Why a request was not mapped to an output.
 #[derive(Clone, Copy, PartialEq, Eq)]
 pub(crate) enum NotMapped {
-    /// No device has the name that the request of this number has.
+    /// No device has the name in the request of this number.
     Unknown(u64),
     /// Writing the answer failed.
     Output,

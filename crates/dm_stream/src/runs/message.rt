@@ -1,7 +1,7 @@
 //! The messages of a run: one line each, and at most one a run.
 //!
-//! The words are fixed in `specs/runs/Messages.antt`, since users match on them. A new ending is an arm
-//! here and there.
+//! Their words are fixed in `specs/runs/Messages.antt`, because users match on them. A new ending is an arm here and
+//! there.
 
 ghost use Rattle.dm_stream.specs.Prelude.{length, HasTold, earlier_message, ending_message, refused_request, request_word};
 ghost use Rattle.std.specs.Prelude.{◌≡◌, ◌≤◌};
@@ -11,17 +11,17 @@ use crate::runs::ending::{Ending, RequestWord};
 use arrayvec::ArrayVec;
 use dm_table::{Output, append, append_number, write_all};
 
-/// A message of a run.
+/// The text of one message of a run.
 pub type Message = ArrayVec<u8, 64>;
 
-/// Writes a message, as far as its stream takes it. Nothing is flushed.
+/// Writes a message, as far as its stream accepts it. Doesn't flush the stream.
 pub fn tell<E: Output>(messages: &mut E, message: &[u8])
     ensures { HasTold message.now (E.past messages.old) (E.past messages.new) }
 {
     let _ = write_all(messages, message);
 }
 
-/// The message of an ending: a line, or empty if all requests were answered. Takes no memory.
+/// The message of an ending: a line, or empty if all requests were answered. Allocates nothing.
 pub fn message_of(ending: Ending) -> Message
     ensures { result.items ≡ ending_message ending }
 {
@@ -35,8 +35,8 @@ pub fn message_of(ending: Ending) -> Message
     text
 }
 
-/// The message of a request that is refused: a line with its number, and a word of at most 16 bytes
-/// that says why. Takes no memory.
+/// The message for a request that is refused: a line with its number, and a word of at most 16 bytes that says why.
+/// Allocates nothing.
 pub fn refused_request(number: u64, word: &[u8]) -> Message
     requires { length word.now ≤ 16 }
     ensures { result.items ≡ refused_request number word.now }
@@ -50,7 +50,7 @@ pub fn refused_request(number: u64, word: &[u8]) -> Message
     text
 }
 
-/// The message of earlier requests that are refused: a line. Takes no memory.
+/// The message for earlier requests that are refused: a line. Allocates nothing.
 pub fn earlier_message(fault: EarlierFault) -> Message
     ensures { result.items ≡ earlier_message fault }
 {
@@ -68,7 +68,7 @@ pub fn earlier_message(fault: EarlierFault) -> Message
     text
 }
 
-/// How the word of a bad request is written.
+/// How messages write what is wrong with a request.
 fn word_text(word: RequestWord) -> &'static [u8]
     ensures word { result.now ≡ request_word word }
     ensures short { length result.now ≤ 7 }

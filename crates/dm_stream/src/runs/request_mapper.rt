@@ -1,7 +1,7 @@
-//! Mapping requests to an output: the handler of a run.
+//! Maps requests to an output: the handler of a run.
 //!
-//! It hands the units of a request through a mapper to a join, which writes them. `specs/runs/Outcome.antt` says what is written, and `specs/runs/Mapped.antt` what one
-//! request adds to it.
+//! It passes the units of a request from a mapper to a join, which writes them. `specs/runs/Outcome.antt` defines
+//! what is written, and `specs/runs/Mapped.antt` what one request adds to it.
 
 ghost use Rattle.dm_stream.specs.Prelude.{None, false, length, OnOk, HasWrittenTo, IsSameReference, Wrote, written_to_none, written_to_more, refl, ◌∙◌, IsReady, HasAnswered, HasStopped, failed_writes, request_answer, step_of, numbered};
 ghost use Rattle.dm_stream.specs.laws.Mapped.{answered_none, answered_more, stopped_more};
@@ -20,10 +20,10 @@ use dm_stack::{DeviceId, Stack};
 use dm_table::{InFault, OutFault, Output, Request};
 use std::marker::PhantomData;
 
-/// Joins the units of a request of a device of the stack, and writes them. Nothing is held before.
+/// Joins the units of a request to a device of the stack, and writes them. The join holds nothing before.
 ///
-/// It is inlined as long as all that is inlined into it isn't very large: RESULTS.md has the gain as *what writes an
-/// answer is inlined*. Measure small requests after a change of what it calls.
+/// It is inlined, unless what is inlined into it gets very large: RESULTS.md has the gain as *what writes an answer is
+/// inlined*. Measure small requests after a change of what it calls.
 #[inline(always)]
 fn write_joined<T: Taken, W: Output>(
     mapper: &mut Mapper<'_, T>,
@@ -55,16 +55,16 @@ fn write_joined<T: Taken, W: Output>(
     }
 }
 
-/// Whether it pays to read ahead: where the line of a sector is one of many, or a chunk may be one of many that a
-/// snapshot took. Then an answer waits most of its time for memory, and waits that are begun together overlap.
+/// Whether it pays to read ahead: if a device has many lines to search, or if a chunk may be one of many that a
+/// snapshot's store holds. Then an answer mostly waits for memory, and waits that begin together overlap.
 pub(crate) fn gains_by_reading_ahead(stack: &Stack) -> bool {
     !stack.snapshots().is_empty() || stack.has_buckets()
 }
 
-/// Reads what the answers to these requests read first, so that it is in the cache by then. What it read is returned,
-/// since a read of which nothing comes is left out.
+/// Reads what the answers to these requests read first, so that it is in the cache by then. Returns what it read,
+/// because a compiler leaves out a read whose result is unused.
 ///
-/// Chunks are gathered first and then looked up in a row: with little between them, more of their waits overlap.
+/// Chunks are collected first and then looked up in a row: with little code in between, more of their waits overlap.
 #[inline(always)]
 pub(crate) fn read_ahead<T: Taken>(
     stack: &Stack,
@@ -87,13 +87,14 @@ pub(crate) fn read_ahead<T: Taken>(
     read
 }
 
-/// Writes the pieces that a mapper makes of requests.
+/// Writes the pieces that a mapper makes of requests, through a join.
 #[derive(Drop)]
 pub(crate) struct RequestMapper<'m, 's, T, W> {
     pub(crate) join: Join<'m, W>,
-    /// The sum of what was read ahead of requests. Nobody uses it, but without it a compiler would leave the reads out.
+    /// The sum of what was read ahead of requests. It is never used, but without it the compiler would leave the
+    /// reads out.
     pub(crate) prefetched: u64,
-    /// The stack of the mapper that the answers come from, and how it keeps taken chunks.
+    /// The types of the mapper that the answers come from: its stack's lifetime, and how it stores taken chunks.
     pub(crate) mapper: PhantomData<(&'s Stack, T)>,
 }
 

@@ -1,6 +1,6 @@
-//! Runs after earlier requests, over inputs in memory that go short or fail: what no file on a disk shows.
+//! Runs after earlier requests, over inputs in memory with short reads or faults, which no file on a disk shows.
 //!
-//! All else is tested on the built program (`tests/outside`).
+//! Everything else is tested on the built program (`tests/outside`).
 
 ghost use Rattle.std.specs.Prelude.{◌<◌};
 
@@ -15,12 +15,12 @@ const SOURCE: &[u8] = b"s: 0 32 snapshot base cow P 8\n";
 
 const DISKS: &[u8] = b"base 32\ncow 32\n";
 
-/// Earlier requests, and what must come of a read of the chunk that the first of them writes.
+/// Earlier requests, and the expected result of a read in the chunk that the first of them writes.
 #[derive(Clone, Copy)]
 struct Case<'a> {
     name: &'a str,
     earlier: &'a [u8],
-    /// After how many bytes reading them fails, if it does.
+    /// After how many bytes reading the earlier requests fails, if it fails.
     fails_after: Option<usize>,
     output: &'a [u8],
     message: &'a [u8],
@@ -73,7 +73,7 @@ static CASES: [Case<'static>; 6] = [
     },
 ];
 
-/// An input of some bytes, of which a read moves this many, and which fails after a number of them if there is one.
+/// An input of these bytes that hands out at most `step` a read, and fails after a number of bytes if one is given.
 fn input(bytes: &[u8], step: usize, fails_after: Option<usize>) -> ShortIn<'_>
     requires { 0 < step }
 {
@@ -83,7 +83,7 @@ fn input(bytes: &[u8], step: usize, fails_after: Option<usize>) -> ShortIn<'_>
     }
 }
 
-/// Runs a case over streams that move at most this many bytes a call, and asserts what it must give.
+/// Runs a case over streams that move at most `step` bytes a call, and asserts its results.
 fn check(rt: &impl Abort, alloc: Global, case: &Case<'_>, step: usize)
     requires { 0 < step }
 {

@@ -1,9 +1,9 @@
-//! The whole way over inputs and outputs in memory that go short or fail: the exact output, message and status.
+//! All of `map` over inputs and outputs in memory with short reads, short writes and faults: the exact output,
+//! message and status.
 //!
-//! Which bytes come of which texts is tested on the built program (`tests/outside`). Here stands what
-//! needs a stream of our own, and calls that only a library has. What is wanted is written down from the
-//! rules, and never taken from a run. Tables are `static`, since rows of an array in a function are
-//! proved one by one.
+//! Which bytes follow from which texts is tested on the built program (`tests/outside`). Here are the tests that need
+//! a stream of our own, or calls that only a library has. Expected results are derived from the rules, never copied
+//! from a run. Tables are `static` because array rows inside a function are proved one by one.
 
 ghost use Rattle.std.specs.Prelude.{◌<◌};
 
@@ -23,17 +23,17 @@ mod gathered;
 mod part_files;
 mod parts;
 
-/// More than the output of any case has. A stream moves this much per call unless a case says otherwise.
+/// More bytes than the output of any case has. A stream moves this many per call unless a case says otherwise.
 const PLENTY: usize = 4096;
 
-/// What a run is given, and what must come of it.
+/// The inputs of a run, and its expected results.
 #[derive(Clone, Copy)]
 struct Case<'a> {
     name: &'a str,
     source: &'a str,
     disks: &'a str,
     requests: &'a [u8],
-    /// Whether status lines are asked for.
+    /// Whether the run is asked for status lines.
     flag: bool,
     output: &'a [u8],
     message: &'a [u8],
@@ -41,8 +41,8 @@ struct Case<'a> {
     streams: Streams,
 }
 
-/// How the streams of a run behave: they move at most `step` bytes a call, and one that has a number
-/// here fails after this many bytes.
+/// How the streams of a run behave: each moves at most `step` bytes a call, and one that has a number here fails
+/// after that many bytes.
 #[derive(Clone, Copy)]
 struct Streams {
     step: usize,
@@ -54,7 +54,7 @@ struct Streams {
     flush_fails: bool,
 }
 
-/// Streams that never fail, nor go short.
+/// Streams without faults, and without short reads or writes.
 const STEADY: Streams = Streams {
     step: PLENTY,
     source: None,
@@ -65,7 +65,7 @@ const STEADY: Streams = Streams {
     flush_fails: false,
 };
 
-/// One linear device on a part of a disk.
+/// A linear device on part of a disk.
 const VOLUME: Case<'static> = Case {
     name: "a volume",
     source: "a: 0 100 linear sda 50\n",
@@ -78,7 +78,7 @@ const VOLUME: Case<'static> = Case {
     streams: STEADY,
 };
 
-/// A group of two volumes, of which the second has two stripes and is read-only.
+/// A group of two volumes; the second has two stripes and is read-only.
 const GROUP: Case<'static> = Case {
     name: "a group",
     source: "contents = \"Text Format Volume Group\"\nversion = 1\nvg0 {\n  extent_size = 8192\n  physical_volumes {\n    pv0 {\n      device = \"/dev/sda1\"\n      dev_size = 1050624\n      pe_start = 2048\n      pe_count = 128\n    }\n  }\n  logical_volumes {\n    lv0 {\n      status = [\"READ\", \"WRITE\", \"VISIBLE\"]\n      segment_count = 1\n      segment1 {\n        start_extent = 0\n        extent_count = 25\n        type = \"striped\"\n        stripe_count = 1\n        stripes = [\"pv0\", 0]\n      }\n    }\n    lv-1 {\n      status = [\"READ\"]\n      segment_count = 1\n      segment1 {\n        start_extent = 0\n        extent_count = 4\n        type = \"striped\"\n        stripe_count = 2\n        stripe_size = 128\n        stripes = [\"pv0\", 25, \"pv0\", 27]\n      }\n    }\n  }\n}\n",
@@ -88,7 +88,7 @@ const GROUP: Case<'static> = Case {
     ..VOLUME
 };
 
-/// An input of some bytes, which fails after a number of them if there is one.
+/// An input of these bytes that hands out at most `step` a read, and fails after a number of bytes if one is given.
 fn input(bytes: &[u8], step: usize, fails_after: Option<usize>) -> ShortIn<'_>
     requires { 0 < step }
 {
@@ -98,7 +98,7 @@ fn input(bytes: &[u8], step: usize, fails_after: Option<usize>) -> ShortIn<'_>
     }
 }
 
-/// An output, which fails after a number of bytes if there is one, and whose flushes may fail.
+/// An output that fails after a number of bytes, if one is given, and whose flushes may fail.
 fn output(
     rt: &impl Abort,
     alloc: Global,
@@ -117,12 +117,12 @@ fn output(
     made.expect(rt, "an output")
 }
 
-/// The message of the program, of which only its own words are given.
+/// A message of the program, from the words after `dmremap: `.
 fn message_of(rt: &impl Abort, alloc: Global, words: &str) -> String {
     format!(in alloc; "dmremap: {words}\n").expect(rt, "a message")
 }
 
-/// Runs a case, and asserts what it must give.
+/// Runs a case, and asserts its results.
 fn check(rt: &impl Abort, alloc: Global, case: &Case<'_>) {
     let streams = case.streams;
     let step = streams.step.max(1);
@@ -144,7 +144,7 @@ fn check(rt: &impl Abort, alloc: Global, case: &Case<'_>) {
     check_answer(rt, case, status, written.as_slice(), messages.as_slice());
 }
 
-/// Runs a case over streams that move at most these many bytes a call.
+/// Runs a case once for each step: with streams that move at most that many bytes a call.
 fn check_at(rt: &impl Abort, alloc: Global, case: &Case<'_>, steps: &[usize]) {
     for &step in steps {
         let streams = Streams {
@@ -155,14 +155,14 @@ fn check_at(rt: &impl Abort, alloc: Global, case: &Case<'_>, steps: &[usize]) {
     }
 }
 
-/// Asserts that what came of a case is what was wanted.
+/// Asserts that the results of a case are the expected ones.
 fn check_answer(rt: &impl Abort, case: &Case<'_>, status: u8, output: &[u8], messages: &[u8]) {
     assert!(rt; output == case.output, "the output of {}", case.name);
     assert!(rt; messages == case.message, "the message of {}", case.name);
     assert_eq!(rt; status, case.status, "the status of {}", case.name);
 }
 
-/// Metadata is loaded with memory for what it says, and has no list of disks.
+/// LVM2 metadata loads without a disk list.
 #[test]
 fn a_group(rt: HostRuntime) {
     let mut source = input(GROUP.source.as_bytes(), PLENTY, None);

@@ -1,7 +1,7 @@
-//! The commands that print, over inputs and outputs in memory that go short or fail.
+//! The commands that print, over inputs and outputs in memory with short writes and faults.
 //!
-//! What is printed of which texts is tested on the built program (`tests/outside`). Here each command is
-//! called with ample memory, and its output and its messages fail after each of their bytes in turn.
+//! What is printed for which texts is tested on the built program (`tests/outside`). Here each command runs with
+//! ample memory, and its output and its messages fail after each of their bytes in turn.
 
 ghost use Rattle.dmremap.specs.Prelude.{true, job_words, is_other};
 ghost use Rattle.std.specs.Prelude.{◌<◌, ◌≡◌};
@@ -15,12 +15,12 @@ use dm_store::MemoryImages;
 use dm_table::{ShortIn, ShortOut};
 use std::process::Abort;
 
-/// More than any stream of a case has.
+/// More bytes than any stream of a case has.
 const PLENTY: usize = 4096;
 
 const WRITE_MESSAGE: &[u8] = b"dmremap: output: write\n";
 
-/// A group with a read-only volume of one extent.
+/// A volume group with a read-only volume of one extent.
 const GROUP: &str = "\
 contents = \"Text Format Volume Group\"
 version = 1
@@ -42,7 +42,7 @@ vg0 {
 }
 ";
 
-/// What is asked for.
+/// What a row asks the program to do.
 #[derive(Clone, Copy)]
 enum Asked {
     Print(TableForm, Format),
@@ -51,7 +51,7 @@ enum Asked {
     SplitName(&'static str),
 }
 
-/// What is asked for, of a source and disks, and what is printed at status 0, or told at another one.
+/// A job, its source and its disk list, and what it prints at status 0 or reports at another status.
 static ROWS: [(Asked, &str, &str, &str, u8); 13] = [
     (
         Asked::Print(TableForm::Table, Format::Tables(TableForm::Table)),
@@ -122,8 +122,8 @@ static ROWS: [(Asked, &str, &str, &str, u8); 13] = [
     (Asked::SplitName("a"), "", "", "dmremap: name: split\n", 1),
 ];
 
-/// How the streams of a run behave: they take at most `step` bytes a call, up to these numbers, and the
-/// output's flushes may fail.
+/// How the streams of a run behave: they take at most `step` bytes a call, as many in all as these numbers say, and
+/// the output's flushes may fail.
 #[derive(Clone, Copy)]
 struct Streams {
     step: usize,
@@ -140,7 +140,7 @@ const STEADY: Streams = Streams {
     flush_fails: false,
 };
 
-/// A source of a format, of which no path is opened here.
+/// A source in this format. Its paths are empty because no file is opened here.
 fn source_in(format: Format) -> Source<'static> {
     Source::Files {
         format,
@@ -149,7 +149,7 @@ fn source_in(format: Format) -> Source<'static> {
     }
 }
 
-/// The parts of a load without a list of paths.
+/// The parts of a load, without a list of paths.
 fn parts_of<'a>(
     format: Format,
     source: &'a str,
@@ -164,7 +164,7 @@ fn parts_of<'a>(
     }
 }
 
-/// The format in which a source is read.
+/// The format of the source that a row loads.
 fn format_of(asked: Asked) -> Format {
     match asked {
         Asked::Print(_, format) => format,
@@ -172,7 +172,7 @@ fn format_of(asked: Asked) -> Format {
     }
 }
 
-/// The job that asks for this. It has no paths, as no file is opened here.
+/// The job that a row asks for. It has no list of paths, and no file is opened for it.
 fn job_of(asked: Asked) -> Job<'static>
     ensures { is_other (job_words result) ≡ true }
 {
@@ -191,7 +191,7 @@ fn job_of(asked: Asked) -> Job<'static>
     }
 }
 
-/// Runs a job over a source and disks, and asserts what is printed and told, and the status.
+/// Runs a job over a source and disks, and asserts its output, its message and its status.
 fn check(
     rt: &impl Abort,
     alloc: Global,
@@ -221,7 +221,7 @@ fn check(
     assert_eq!(rt; got, status, "the status of {source}");
 }
 
-/// Asserts what comes of a text that is printed, also where its output fails after each byte or at its flush.
+/// Asserts that a text is printed, and what happens if its output fails after each byte or at its flush.
 fn check_printed(rt: &impl Abort, alloc: Global, asked: Asked, texts: (&str, &str), text: &[u8]) {
     check(rt, alloc, asked, texts, STEADY, (text, b"", 0));
     for output in 0..text.len() {
@@ -242,7 +242,7 @@ fn check_printed(rt: &impl Abort, alloc: Global, asked: Asked, texts: (&str, &st
     check(rt, alloc, asked, texts, streams, (text, WRITE_MESSAGE, 5));
 }
 
-/// Asserts what comes of a message, also where its stream fails after each byte.
+/// Asserts that a message is reported, also if its stream fails after each byte.
 fn check_told(
     rt: &impl Abort,
     alloc: Global,

@@ -4,7 +4,7 @@ use Rattle.dm_read.proofs.BlockLemmas.{in_part, part_kept, part_len}
 use Rattle.dm_read.proofs.part.read_at.Goals as goal
 use Rattle.std.specs.Prelude.{◌≡◌, ◌+◌, ◌*◌, ◌<◌}
 
--- sectors that were read to a part of a block
+-- sectors that were read to part of a block are in the block
 placed : (sectors : Sectors) (start at count : ℕ) (result : Result (Unit {0}) SectorFault) (bytes block : List ℕ) → length bytes ≡ 512 * count → ((i : ℕ) → i < count → sector_in block (at + i) ≡ sector_in bytes i)
     → AreRead sectors start result bytes → OnOk result ((i : ℕ) → i < count → sectors (start + i) ≡ Ok (sector_in block (at + i)))
 placed sectors start at count (Ok done) bytes block len part are = λ i less.

@@ -44,7 +44,7 @@ pub returns-in-Some-clause-moved : goal.returns-in-Some-clause-moved
 returns-in-Some-clause-moved g c =
     part_moved (g.W.Output.past c.args.output.now) (g.W.Output.past c.loop-left.output) (g.W.Output.past c.write_all.new.writer) (take (512 * c.fill_block-filled.result.count) c.fill_block-filled.new.block) c.loop-left.invariant.moved c.in_ok-write_all.ensures.wrote
 
--- ---- all sectors have
+-- ---- all sectors of a block have bytes
 
 pub loop-left-preserved : goal.loop-left-preserved
 loop-left-preserved g c =

@@ -1,4 +1,4 @@
--- some of the ranges that begin there are taken out
+-- only ranges that begin from `start` to `end` were removed so far
 use Rattle.dm_replay.proofs.Prelude.{length, AreApart, IsCleared}
 use Rattle.dm_replay.proofs.disk_ranges.clear.Given as goal
 

@@ -1,4 +1,4 @@
--- what is stored is as before
+-- what is stored on the disks is unchanged so far
 use Rattle.dm_replay.proofs.Prelude.{ℕ, length, values_of}
 use Rattle.dm_replay.proofs.disk_values.reach.Given as goal
 use Rattle.std.specs.Prelude.{◌≡◌, ◌-◌, ◌+◌}

@@ -1,4 +1,4 @@
--- the lines so far are written, and nothing failed
+-- the lines of the runs so far are written, and no write failed
 use Rattle.dm_replay.proofs.Prelude.{take, Ok, Wrote, runs_text}
 use Rattle.dm_table.specs.declared.io.device_io.OutFault.{OutFault}
 use Rattle.dm_replay.proofs.run_text.write_runs.Given as goal

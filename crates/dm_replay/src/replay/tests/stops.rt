@@ -1,10 +1,10 @@
-//! Stops in replays of stacks without a clash, and the lines of what is answered.
+//! Halts in replays of stacks without a clash, and the lines of the answers.
 //!
-//! Rows of one text, so that a file of many more is read in the same way, as `tests/outside/program/halts.py` writes
-//! it, which also works out these answers by the plain rules. Each row but the first comes after a `#`, and
-//! has its parts with a `|` between them: what it shows, devices as concise text, disks, requests, and the
-//! lines of what they answer. A request comes after the number of units after which it is halted, and is
-//! then not answered, or after a hyphen.
+//! All rows are in one text, so that a file with many more can be read in the same way.
+//! `tests/outside/program/halts.py` writes that file, and works out these answers by the plain rules. Each row but
+//! the first follows a `#`, and its parts are separated by `|`: a title, devices as concise text, disks, requests,
+//! and the lines of their answers. A request follows the number of units after which it is halted, and then isn't
+//! answered, or follows a hyphen.
 
 pub(crate) static STOPS: &str = "\
 The first chunk of a store is torn, and then written again.

@@ -4,7 +4,7 @@ use Rattle.dmremap.proofs.EntryLemmas.{between}
 use Rattle.dmremap.proofs.explanation.write_entries.Given as goal
 use Rattle.std.specs.Prelude.{◌≡◌}
 
--- the texts of the entries so far are written, and nothing failed
+-- the texts of the entries so far are written, and no write failed
 abbrev pub invariant-loop-entry : goal.invariant-loop-entry
 invariant-loop-entry g l =
     let entries = map (λ entry. ((entry.0.0.now, entry.0.1.now), entry.1.now, entry.2.now)) l.entries in

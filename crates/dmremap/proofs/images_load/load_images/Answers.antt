@@ -11,7 +11,7 @@ returns-in-Err-clause-opened g c = λ p held is seen.
     stopped_opens (ImagesOpen p held) _ c.in-Err.refusal.fault c.stopped.result c.stopped.ensures
     (λ other. head_refused p held listed c.deref.result.now c.in-Err.refusal is (c.in-Err.ensures.refused (listed_disks listed held) (seen_disks _ _ _ held seen c.listed_heads.ensures.paths) other) (c.deref.ensures.value ∙ c.listed_heads.ensures.paths))
 
--- ---- the text is, or what it describes
+-- ---- the LVM2 text or the stack is refused
 
 pub returns-in-Err-load_owned-clause-opened : goal.returns-in-Err-load_owned-clause-opened
 returns-in-Err-load_owned-clause-opened g c = λ p held is seen.
@@ -19,7 +19,7 @@ returns-in-Err-load_owned-clause-opened g c = λ p held is seen.
     heads_unopened p held listed c.deref-2.result.now c.in-Ok.heads c.in-Err-load_owned.refusal is (c.in-Ok.ensures.given (listed_disks listed held) (seen_disks _ _ _ held seen c.listed_heads.ensures.paths))
     (c.deref-2.ensures.value ∙ c.listed_heads.ensures.paths) c.in-Err-load_owned.ensures
 
--- ---- a disk ends before
+-- ---- a disk is too short
 
 pub returns-in-Some-clause-opened : goal.returns-in-Some-clause-opened
 returns-in-Some-clause-opened g c = λ p held is seen.
@@ -33,7 +33,7 @@ returns-in-Some-clause-opened g c = λ p held is seen.
     stopped_opens (ImagesOpen p held) _ Ends c.stopped-in-Some.result c.stopped-in-Some.ensures
     (λ other. subst (λ (xs : List DiskPath). ImagesOpen p held (Stops (disk_message (slice_get xs c.in-Some.disk) Ends))) (sym same) opens)
 
--- ---- none does
+-- ---- no disk is too short
 
 pub returns-clause-opened : goal.returns-clause-opened
 returns-clause-opened g c = λ p held is seen.

@@ -17,7 +17,7 @@ returns-in-Ok-listed_heads-clause-did g c = λ held seen.
 pub returns-in-Ok-listed_heads-clause-asked : goal.returns-in-Ok-listed_heads-clause-asked
 returns-in-Ok-listed_heads-clause-asked g c = λ past. asked_none _ _ c.print_text.result past c.print_text.ensures.did
 
--- ---- one was refused
+-- ---- a head was refused
 
 pub returns-in-Err-listed_heads-clause-did : goal.returns-in-Err-listed_heads-clause-did
 returns-in-Err-listed_heads-clause-did g c = λ held seen.

@@ -5,7 +5,7 @@ use Rattle.dmremap.proofs.MapLemmas.{earlier_read, loaded_maps, unopened_maps}
 use Rattle.dmremap.proofs.OneWhole.{one_by}
 use Rattle.dmremap.proofs.map_stored.map_stored.Goals as goal
 
--- ---- nothing was opened
+-- ---- the opening was refused
 
 pub returns-in-Err-clause-answers : goal.returns-in-Err-clause-answers
 returns-in-Err-clause-answers g c = λ held seen. (
@@ -42,7 +42,7 @@ returns-in-Ok-clause-memory g c = λ six.
 pub returns-in-Ok-clause-read : goal.returns-in-Ok-clause-read
 returns-in-Ok-clause-read g c = c.begin-begun.ensures.read c.args.source.now c.in-Ok.ensures.open
 
--- ---- a law of the definitions
+-- ---- at most one answer, a law of the definitions
 
 pub returns-in-Err-clause-one : goal.returns-in-Err-clause-one
 returns-in-Err-clause-one g c = λ old new held. one_by (g.O.Opens.opens old new held) (c.open.ensures.one old new held)

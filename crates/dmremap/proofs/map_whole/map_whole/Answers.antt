@@ -24,7 +24,7 @@ returns-in-Ok-clause-answers g c =
     loaded_maps (PartsOpen c.args.format (delivery (g.S.Input.past c.args.source.now) (g.S.Input.past c.load.new.source)) (delivery_if g.D.Input.past c.args.disks.now c.load.new.disks)) fresh_start _ None c.in-Ok.stack c.in-Ok.ensures.gives.sound
     (c.map_from-status.ensures.answers (fresh_start c.in-Ok.stack) None c.begin-begun.ensures.begun)
 
--- ---- the clauses that speak of no run are laws of the definitions
+-- ---- clauses about no run, which are laws of the definitions
 
 pub returns-in-Err-clause-one : goal.returns-in-Err-clause-one
 returns-in-Err-clause-one g c = λ f flag s d. one_by (PartsOpen f s d) (one_opening f s d) fresh_start flag None

@@ -4,7 +4,7 @@ use Rattle.dmremap.proofs.OneOther.{job_loads}
 use Rattle.dmremap.proofs.other_whole.answer.Goals as goal
 use Rattle.std.specs.Prelude.{◌≡◌}
 
--- ---- nothing is loaded
+-- ---- jobs that load nothing
 
 pub returns-in-Name-clause-did : goal.returns-in-Name-clause-did
 returns-in-Name-clause-did g c = λ held seen. rw c.in-Name.is c.print_name.ensures.did
@@ -15,7 +15,7 @@ returns-in-SplitName-clause-did g c = λ held seen. rw c.in-SplitName.is c.print
 pub returns-in-Explain-clause-did : goal.returns-in-Explain-clause-did
 returns-in-Explain-clause-did g c = λ held seen. rw c.in-Explain.is c.print_explanation.ensures.did
 
--- ---- a source is
+-- ---- jobs that load a source
 
 pub returns-in-Ok-clause-did : goal.returns-in-Ok-clause-did
 returns-in-Ok-clause-did g c = λ held seen.

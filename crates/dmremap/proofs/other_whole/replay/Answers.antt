@@ -3,7 +3,7 @@ use Rattle.dmremap.proofs.AnswerLemmas.{asked_refused, refused_does}
 use Rattle.dmremap.proofs.ReplayLemmas.{begun_replays, unbegun_replays}
 use Rattle.dmremap.proofs.other_whole.replay.Goals as goal
 
--- ---- it begins
+-- ---- the replay begins
 
 pub returns-in-Ok-clause-did : goal.returns-in-Ok-clause-did
 returns-in-Ok-clause-did g c = λ first has held seen.
@@ -14,7 +14,7 @@ returns-in-Ok-clause-did g c = λ first has held seen.
 pub returns-in-Ok-clause-writes : goal.returns-in-Ok-clause-writes
 returns-in-Ok-clause-writes g c = c.replay_stack.ensures.did.writes
 
--- ---- it does not
+-- ---- the replay doesn't begin
 
 pub returns-in-Err-clause-did : goal.returns-in-Err-clause-did
 returns-in-Err-clause-did g c = λ first has held seen.

@@ -5,7 +5,7 @@ use Rattle.dmremap.proofs.PrintLemmas.{says_done}
 use Rattle.dmremap.proofs.printing.print_parts.Goals as goal
 use Rattle.std.specs.Prelude.{◌≡◌}
 
--- what is so where there is something is so of what there is
+-- what an option's contract says of its value holds of this value; below, likewise without a value
 of_some : {T : Type 0} (found : Option T) (value : T) (Holds : T → Type 0) → found ≡ Some value → IfSome found Holds → Holds value
 of_some found value Holds is holds = rw is at holds
 

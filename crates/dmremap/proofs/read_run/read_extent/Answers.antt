@@ -4,7 +4,7 @@ use Rattle.dmremap.proofs.ReadLemmas.{read_does, unbegun_reads, written_asked, w
 use Rattle.dmremap.proofs.read_run.read_extent.Goals as goal
 use Rattle.std.specs.Prelude.{◌≡◌}
 
--- ---- it does not begin
+-- ---- the run doesn't begin
 
 pub returns-in-Err-clause-did : goal.returns-in-Err-clause-did
 returns-in-Err-clause-did g c = λ held seen.
@@ -15,7 +15,7 @@ returns-in-Err-clause-did g c = λ held seen.
 pub returns-in-Err-clause-asked : goal.returns-in-Err-clause-asked
 returns-in-Err-clause-asked g c = λ past. asked_refused past c.in-Err.refusal
 
--- ---- it begins
+-- ---- the run begins
 
 pub returns-in-Ok-clause-did : goal.returns-in-Ok-clause-did
 returns-in-Ok-clause-did g c = λ held seen.

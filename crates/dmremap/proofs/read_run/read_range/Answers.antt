@@ -4,7 +4,7 @@ use Rattle.dmremap.proofs.AnswerLemmas.{asked_refused, does_more, refused_does}
 use Rattle.dmremap.proofs.read_run.read_range.Goals as goal
 use Rattle.std.specs.Prelude.{◌≡◌}
 
--- ---- nobody knows where disks lie
+-- ---- the places of disks are unknown
 
 pub returns-in-Err-clause-did : goal.returns-in-Err-clause-did
 returns-in-Err-clause-did g c = λ held at settled seen.
@@ -14,7 +14,7 @@ returns-in-Err-clause-did g c = λ held at settled seen.
 pub returns-in-Err-clause-asked : goal.returns-in-Err-clause-asked
 returns-in-Err-clause-asked g c = λ past. asked_refused past (refusals.Load c.in-Err.fault)
 
--- ---- no sectors are there
+-- ---- the range is refused
 
 pub returns-in-Err-extent_of-clause-did : goal.returns-in-Err-extent_of-clause-did
 returns-in-Err-extent_of-clause-did g c = λ held at settled seen.
@@ -24,7 +24,7 @@ returns-in-Err-extent_of-clause-did g c = λ held at settled seen.
 pub returns-in-Err-extent_of-clause-asked : goal.returns-in-Err-extent_of-clause-asked
 returns-in-Err-extent_of-clause-asked g c = λ past. asked_refused past c.in-Err-extent_of.refusal
 
--- ---- they are read
+-- ---- the sectors are read
 
 pub returns-in-Ok-extent_of-clause-did : goal.returns-in-Ok-extent_of-clause-did
 returns-in-Ok-extent_of-clause-did g c = λ held at settled seen.

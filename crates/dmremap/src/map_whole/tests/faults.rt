@@ -1,8 +1,8 @@
-//! Streams that go short or fail: sources, disk lists, requests, outputs and message streams.
+//! Streams with short reads, short writes and faults: sources, disk lists, requests, outputs and messages.
 //!
-//! Reads and writes are cut in any way, and a stream fails after each number of its bytes in turn. What
-//! was written before is a beginning of what would have been written, and which fault is reported does
-//! not depend on where reads are cut.
+//! Reads and writes are cut in every way, and a stream fails after each of its bytes in turn. What was written before
+//! the fault is a prefix of what would have been written, and which fault is reported doesn't depend on where reads
+//! are cut.
 
 use super::*;
 
@@ -10,12 +10,12 @@ const READ_MESSAGE: &[u8] = b"dmremap: requests: read\n";
 
 const WRITE_MESSAGE: &[u8] = b"dmremap: output: write\n";
 
-/// How many bytes a call moves at most.
+/// The most bytes that a call moves, for each run of a case.
 static STEPS: [usize; 17] = [
     1, 2, 3, 4, 5, 6, 7, 8, 9, 10, 11, 12, 13, 14, 15, 16, PLENTY,
 ];
 
-/// A line and the rest of a line without its newline.
+/// A whole line, and a last line without its newline.
 const LINE_AND_REST: Case<'static> = Case {
     name: "a line and a rest",
     requests: b"R a 0 1\nR a 1 1",
@@ -35,7 +35,7 @@ const REFUSED: Case<'static> = Case {
     ..VOLUME
 };
 
-/// A request that is answered, and a bad one after it.
+/// A request that is answered, followed by a bad one.
 const BAD_REQUEST: Case<'static> = Case {
     name: "a bad request",
     requests: b"R a 0 1\nR a 0 0\n",
@@ -52,7 +52,7 @@ const NO_REQUESTS: Case<'static> = Case {
     ..VOLUME
 };
 
-/// A snapshot of which one chunk is written, with status lines asked for.
+/// A snapshot with one chunk written, and with status lines asked for.
 const WRITTEN: Case<'static> = Case {
     name: "a snapshot that is written",
     source: "s: 0 32 snapshot base cow P 8\n",
@@ -69,7 +69,7 @@ const FAILING_FLUSH: Streams = Streams {
     ..STEADY
 };
 
-/// Which of several faults is reported, and what is not asked of an output.
+/// Cases with several faults, each with the one that is reported, and cases where an output is not asked for anything.
 static ROWS: [Case<'static>; 12] = [
     VOLUME,
     LINE_AND_REST,
@@ -116,7 +116,7 @@ static ROWS: [Case<'static>; 12] = [
         },
         ..BAD_REQUEST
     },
-    // Without output no write can fail, and a refused load does not flush.
+    // A run without output can't fail at a write, and a refused load doesn't flush.
     Case {
         streams: Streams {
             output: Some(0),
@@ -131,7 +131,7 @@ static ROWS: [Case<'static>; 12] = [
         },
         ..REFUSED
     },
-    // Status lines: none after a read fault, and all of them where the flush alone fails.
+    // Status lines: none after a read fault, and all of them if only the flush fails.
     Case {
         name: "a read fault before status lines",
         output: b"1 copy base 0 8 cow 16\n1 W cow 17 1\n",
@@ -159,7 +159,7 @@ fn the_cutting_of_streams_shows_nowhere(rt: HostRuntime) {
     }
 }
 
-/// Which stream fails.
+/// Which stream of a case fails.
 #[derive(Clone, Copy)]
 enum Failing {
     Source,
@@ -169,8 +169,8 @@ enum Failing {
     Messages,
 }
 
-/// What a stream fails after each byte of: both parts of a load; requests; answers, and status lines
-/// after them; and a message for each way in which a run ends with one.
+/// The cases whose stream fails after each of its bytes: both parts of a load, requests, answers, status lines after
+/// answers, and the message of each way for a run to end with one.
 static FAILING: [(Case<'static>, Failing); 8] = [
     (VOLUME, Failing::Source),
     (VOLUME, Failing::Disks),
@@ -206,7 +206,7 @@ static FAILING: [(Case<'static>, Failing); 8] = [
     ),
 ];
 
-/// How many bytes a stream of a case has.
+/// How many bytes this stream of a case has.
 fn length_of(case: &Case<'_>, failing: Failing) -> usize {
     match failing {
         Failing::Source => case.source.len(),
@@ -217,7 +217,7 @@ fn length_of(case: &Case<'_>, failing: Failing) -> usize {
     }
 }
 
-/// What comes of a case where a stream fails after this many bytes, fewer than it has or all of them.
+/// The expected results of a case whose stream fails after `count` bytes, at most as many as it has.
 fn failed<'a>(case: Case<'a>, failing: Failing, count: usize) -> Case<'a> {
     match failing {
         Failing::Source => Case {
@@ -241,7 +241,7 @@ fn failed<'a>(case: Case<'a>, failing: Failing, count: usize) -> Case<'a> {
             ..case
         },
         Failing::Requests => Case {
-            // Only the whole first line is answered.
+            // A line is answered only if all of it was read.
             output: if count < 8 { b"" } else { case.output },
             message: READ_MESSAGE,
             status: 4,
@@ -263,7 +263,7 @@ fn failed<'a>(case: Case<'a>, failing: Failing, count: usize) -> Case<'a> {
     }
 }
 
-/// What comes of a case whose output takes this many bytes, and fails unless these are all.
+/// The expected results of a case whose output takes `count` bytes, and fails if that is not all of it.
 fn written_up_to<'a>(case: Case<'a>, count: usize) -> Case<'a> {
     let streams = Streams {
         output: Some(count),
@@ -292,20 +292,20 @@ fn a_stream_fails_after_each_byte(rt: HostRuntime) {
     }
 }
 
-/// A number of letters, and a text after them.
+/// A text of `count` letters, followed by `end`.
 fn letters(alloc: Global, count: usize, end: &str) -> Result<String, AllocError> {
     let mut text = "a".repeat(alloc, count)?;
     text.push_str(end)?;
     Ok(text)
 }
 
-/// After how many of these bytes a stream of them fails, if it does.
+/// After how many bytes a stream of this text fails: after all of them, if it fails.
 fn end_of(text: &str, fails: bool) -> Option<usize> {
     if fails { Some(text.len()) } else { None }
 }
 
-/// The letters of a source and of a disk list, each with whether it fails after them, and the
-/// message. A letter alone is a fault of syntax, and 1,048,577 are too long.
+/// How many letters the source and the disk list have, each with whether reading fails after them, and the message. A
+/// single letter is a fault of syntax; 1,048,577 letters are too long.
 static PARTS: [(usize, bool, usize, bool, &[u8]); 10] = [
     (1, false, 0, true, b"dmremap: disks: read\n"),
     (1, false, 1_048_577, false, b"dmremap: disks: long\n"),
@@ -331,7 +331,7 @@ static PARTS: [(usize, bool, usize, bool, &[u8]); 10] = [
     (0, true, 0, true, b"dmremap: source: read\n"),
 ];
 
-/// Asserts what two parts give of which each may fail after its bytes.
+/// Asserts the message for a source and a disk list, each of which may fail after its bytes.
 fn check_parts<'a>(
     rt: &impl Abort,
     alloc: Global,
@@ -367,8 +367,8 @@ fn parts_are_read_before_any_text(rt: HostRuntime) {
     }
 }
 
-/// What a line of some letters gives: their number, whether there is a newline, whether reads fail
-/// after it, and the message and the status.
+/// A line of letters: how many, with or without a newline, and whether reads fail after it; then the expected message
+/// and status.
 static LONG_LINES: [(usize, &str, bool, &[u8], u8); 8] = [
     (4096, "\n", false, b"dmremap: request 1: form\n", 3),
     (4097, "\n", false, b"dmremap: request 1: long\n", 3),
@@ -380,7 +380,7 @@ static LONG_LINES: [(usize, &str, bool, &[u8], u8); 8] = [
     (4097, "", true, b"dmremap: request 1: long\n", 3),
 ];
 
-/// Asserts what a line gives after which reads may fail, however it is cut.
+/// Asserts the results of a line after which reads may fail, for several cuts of the line.
 fn check_line<'a>(
     rt: &impl Abort,
     alloc: Global,

@@ -1,8 +1,7 @@
-//! The calls that the program is made of, with ample memory: what each returns.
+//! The calls that the program consists of, with ample memory, and what each returns.
 //!
-//! Each call that takes memory may fail for lack of it by its contract, so a body that always fails
-//! would meet every clause: these rows refuse it. Read-only devices are tested here, since table
-//! text has none.
+//! By its contract, any call that allocates may fail for lack of memory, so a body that always fails would meet every
+//! clause. These rows rule it out. Read-only devices are tested here because table text can't describe them.
 
 ghost use Rattle.dmremap.specs.Prelude.{length, disk_len};
 ghost use Rattle.std.specs.Prelude.{◌≡◌, ◌<◌};
@@ -13,7 +12,7 @@ use dm_stack::{DiskId, Lower, ResolvedTarget, Stack};
 use dm_stream::{DiskTexts, Ending, Join, run};
 use dm_table::{CheckFault, DiskName, Name, parse_disks, parse_table};
 
-/// A text, and whether it is the name of a device, and of a disk.
+/// A text, whether it is the name of a device, and whether it is the name of a disk.
 static NAMES: [(&str, bool, bool); 7] = [
     ("a.1:x", true, true),
     ("/dev/sda", false, true),
@@ -48,7 +47,7 @@ fn names(rt: HostRuntime) {
     }
 }
 
-/// A stack, whose first device may be read-only, and a disk or two of 64 sectors.
+/// A stack of the source's devices, the first of them read-only if `ro`, and of two disks of 64 sectors.
 fn stack_of(rt: &impl Abort, alloc: Global, source: &str, ro: bool) -> Stack {
     let mut devices = parse_table(alloc, source.as_bytes()).expect(rt, "devices");
     let disks = parse_disks(alloc, "sda 64\nsdb 64\n".as_bytes()).expect(rt, "disks");
@@ -57,10 +56,10 @@ fn stack_of(rt: &impl Abort, alloc: Global, source: &str, ro: bool) -> Stack {
     Stack::load(alloc, devices, disks).expect(rt, "a stack")
 }
 
-/// Two devices, the lower of which comes first.
+/// Two devices, the second on top of the first.
 const TWO_DEVICES: &str = "a: 0 8 linear sda 0\nb: 0 8 linear /dev/mapper/a 0\n";
 
-/// Asserts what is counted of the two devices and the two disks.
+/// Asserts the counts of the two devices and the two disks.
 fn check_counts(rt: &impl Abort, stack: &Stack) {
     assert_eq!(rt; stack.device_count(), 2);
     assert_eq!(rt; stack.disk_count(), 2);
@@ -68,7 +67,7 @@ fn check_counts(rt: &impl Abort, stack: &Stack) {
     assert!(rt; stack.device("sda").is_none(), "a disk is no device");
 }
 
-/// Asserts what is told of a device of eight sectors.
+/// Asserts what the stack says of a device of eight sectors.
 fn check_device(rt: &impl Abort, stack: &Stack, name: &str, is_ro: bool) {
     let device = stack.device(name).expect(rt, "a device");
     assert_eq!(rt; stack.is_ro(device), is_ro);
@@ -76,7 +75,7 @@ fn check_device(rt: &impl Abort, stack: &Stack, name: &str, is_ro: bool) {
     assert_eq!(rt; stack.name(device), name);
 }
 
-/// Asserts what a search finds in a device of one line, and what it costs.
+/// Asserts what a search in a device of one line finds, and what it costs.
 fn check_look(rt: &impl Abort, stack: &Stack, name: &str) {
     let device = stack.device(name).expect(rt, "a device");
     let mut looker = stack.looker();
@@ -96,7 +95,7 @@ fn a_stack(rt: HostRuntime) {
     check_look(&rt, &stack, "b");
 }
 
-/// As many lines as there may be, each of one sector.
+/// A stack with the most lines that a load accepts, each of one sector.
 fn most_lines(rt: &impl Abort, alloc: Global) -> Stack {
     let mut source = String::new(alloc);
     for start in 0..65536 {
@@ -106,7 +105,7 @@ fn most_lines(rt: &impl Abort, alloc: Global) -> Stack {
     stack_of(rt, alloc, &source, false)
 }
 
-/// Asserts that the line of a sector is found in at most one comparison, where each line has one sector.
+/// Asserts that the line of a sector is found in at most one comparison, if each line has one sector.
 fn check_found(rt: &impl Abort, stack: &Stack, sector: u64) {
     let device = stack.device("a").expect(rt, "a device");
     let mut looker = stack.looker();
@@ -116,7 +115,7 @@ fn check_found(rt: &impl Abort, stack: &Stack, sector: u64) {
     assert!(rt; looker.comparisons() <= 1, "few comparisons");
 }
 
-/// The line of a sector is one of at most two, in each bucket of as many lines as there may be, the last one too.
+/// With the most lines, every bucket leaves at most two lines for a sector, even the last bucket.
 #[test]
 fn buckets_of_the_most_lines(rt: HostRuntime) {
     let stack = most_lines(&rt, rt.alloc());
@@ -125,7 +124,7 @@ fn buckets_of_the_most_lines(rt: HostRuntime) {
     }
 }
 
-/// Runs requests to a stack, and asserts what is written.
+/// Runs requests over a stack, and asserts the output.
 fn check_run(rt: &impl Abort, alloc: Global, stack: &Stack, requests: &[u8], want: &[u8]) {
     let mut mapper = Mapper::<PlainTaken>::new(alloc, stack.looker()).expect(rt, "a mapper");
     let texts = DiskTexts::new(alloc, stack).expect(rt, "texts of disks");
@@ -154,7 +153,7 @@ fn a_read_only_device(rt: HostRuntime) {
     check_run(&rt, rt.alloc(), &stack, requests, want);
 }
 
-/// The disk, of 64 sectors, that the first line of a device lies on.
+/// The disk, of 64 sectors, below the first line of a device.
 fn disk_below(rt: &impl Abort, stack: &Stack, name: &str) -> DiskId
     ensures there { result < length stack.now.disks }
     ensures len { disk_len stack.now result ≡ 64 }
@@ -175,7 +174,7 @@ fn disk_below(rt: &impl Abort, stack: &Stack, name: &str) -> DiskId
     disk
 }
 
-/// Eight sectors that are copied from a disk to another.
+/// A copy of eight sectors from a disk to another.
 fn copy(disk: DiskId, start: u64, to: DiskId, to_start: u64) -> Piece
     ensures { result ≡ Piece.Copy disk start 8 to to_start }
 {

@@ -1,10 +1,10 @@
-//! The command `replay` over inputs and outputs in memory that go short or fail.
+//! The command `replay` over inputs and outputs in memory with short reads, short writes and faults.
 //!
-//! What is answered to which requests, also from what stores hold, is tested on the built program (`tests/outside`).
+//! The answers to requests, also from what exception stores hold, are tested on the built program (`tests/outside`).
 
 use super::*;
 
-/// How the output of a case fails: after this many bytes, or at its flush.
+/// How the output of a case fails: after this many bytes, or at its flushes.
 #[derive(Clone, Copy)]
 struct Failing {
     after: usize,
@@ -23,10 +23,10 @@ const FAILING_FLUSH: Failing = Failing {
     flush: true,
 };
 
-/// Tables, disks and requests, of which reading fails after some bytes.
+/// Tables, disks and requests; reading the requests fails after some bytes if a number is given.
 type Given<'a> = (&'a str, &'a str, &'a str, Option<usize>);
 
-/// Replays requests over streams that move a few bytes a call, and asserts what must come of it.
+/// Replays requests over streams that move a few bytes a call, and asserts the results.
 fn check(
     rt: &impl Abort,
     alloc: Global,
@@ -71,7 +71,7 @@ const SNAPSHOT: &str = "s: 0 20 snapshot base cow P 8\n";
 
 const SNAPSHOT_DISKS: &str = "base 20\ncow 64\n";
 
-/// What is given, and the output, the message and the status.
+/// The inputs of a replay, and its expected output, message and status.
 static REPLAYS: [(Given<'static>, &str, &str, u8); 5] = [
     (
         (
@@ -101,7 +101,7 @@ static REPLAYS: [(Given<'static>, &str, &str, u8); 5] = [
         "dmremap: request 3: not top\n",
         3,
     ),
-    // Two claims meet, and a load that is refused: nothing is written.
+    // Two claims that clash, and a load that is refused: nothing is written.
     (
         (
             "a: 0 8 linear sda 0\nb: 0 8 linear sda 4\n",
@@ -145,7 +145,7 @@ fn the_output_fails_after_each_byte(rt: HostRuntime) {
                 (&output[..after], WRITE_MESSAGE, 5),
             );
         }
-        // A refused load does not flush.
+        // A refused load doesn't flush the output.
         let (message, status) = if status == 1 {
             (message, 1)
         } else {

@@ -4,7 +4,7 @@ use Rattle.dm_replay.proofs.WorldLemmas.{are_whole, few_whole, going_halted, is_
 use Rattle.dm_replay.proofs.replay.Replay.halt.Goals as goal
 use Rattle.std.specs.Prelude.{◌≡◌}
 
--- a replay that is spent for want of memory: it had not failed, and a top device has the name
+-- a replay that ran out of memory while halting: it had not failed, and a top device has the name
 spent : (inside old : Replaying) (name : List ℕ) (device : ℕ) → inside ≡ old → inside.failed ≡ false → position (λ other. is_same other.name name) inside.stack.devices ≡ Some device → IsTop inside.stack device
     → (old.failed ≡ false) × HasTop old.stack name
 spent inside old name device is going named top =

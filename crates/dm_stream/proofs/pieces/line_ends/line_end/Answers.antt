@@ -2,7 +2,7 @@ use Rattle.dm_stream.proofs.Prelude.{rules, ℕ, List, [], get_or, set, length, 
 use Rattle.dm_stream.proofs.pieces.line_ends.line_end.Goals as goal
 use Rattle.std.specs.Prelude.{◌≡◌, ◌≤◌, ◌++◌, ◌∷◌}
 
--- the front of a text with the count of its bytes as the last of eight
+-- an array that begins with a line end, and whose last byte counts the line end's bytes
 counted : (len end : ℕ) (text array : List ℕ) → end ≤ 7 → length array ≡ 8 → array ≡ take 8 text → take end text ≡ line_end len → IsLineEnd len (set array 7 end)
 counted len end text array short eight is holds =
     let last : get_or (set array 7 end) 7 0 ≡ end = get_or-set_same array 7 end 0 (omega arith) in

@@ -73,7 +73,7 @@ returns-in-Err-handle-clause-stopped g c =
     c.in-Some.ensures.good
     (g.met.H.Handler.answered_then_stopped c.args.stack.now c.args.handler.now c.answer_in_batches.new.handler c.handle.new.self c.args.source.now c.answer_in_batches.new.source c.handle.new.source so_far.done more _ so_far.answered c.in-Err-handle.ensures.stopped)
 
--- The next line, before which the handler was told of a read
+-- The next line, after the handler was told that a read may follow
 
 pub lines-preserved : goal.lines-preserved
 lines-preserved g c =

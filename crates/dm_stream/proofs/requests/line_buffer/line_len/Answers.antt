@@ -9,7 +9,7 @@ by_first xs None h = parts_without xs (λ k l. h k (omega arith) l)
 by_first xs (Some n) h =
     (h.0.high, rw add-one (parts_first xs n h.0.high (λ k l. h.0.before k (omega arith) l) h.1))
 
--- the first newline after bytes that were searched
+-- the first newline after the bytes that were searched
 after : (xs : List ℕ) (n : ℕ) (r : Option ℕ) → IsFirstByte (is_byte 10) (take (length xs - n) (drop n xs)) r
     → MatchOption r (line_parts (drop n xs) ≡ drop n xs ∷ []) (λ k. (k < length (drop n xs)) × (line_parts (drop n xs) ≡ take k (drop n xs) ∷ line_parts (drop (k + 1) (drop n xs))))
 after xs n r h = by_first (drop n xs) r (rw (← take_rest xs n) h)

@@ -3,7 +3,7 @@ use Rattle.dm_map.specs.declared.state.usage.Usage.{Usage}
 use Rattle.dm_stream.proofs.runs.status_lines.write_status.Goals as goal
 use Rattle.std.specs.Prelude.{◌≡◌, ◌+◌, ◌++◌}
 
--- what is written of a snapshot is its line
+-- what is written for a snapshot is its status line
 line_of : (stack : Description) (old mapper : MapperView) (device : ℕ) (usage : Usage) → old.stack ≡ stack → mapper ≡ with_looked old mapper.looked → IsSnapshot stack device
     → IfSome (snapshot_at mapper.stack device) (λ snapshot. usage ≡ usage_of mapper.stack snapshot (taken_at mapper.state device))
     → name_at stack device ++ after_name (device_len stack device) usage ≡ status_line stack old.state device

@@ -1,4 +1,4 @@
--- the mapper stays but for its looker's counts, the lines of the snapshots so far are written, and nothing failed
+-- the mapper is unchanged but for its looker's counts, the status lines so far are written, and no write failed
 use Rattle.dm_stream.proofs.Prelude.{take, Ok, flat_map, Wrote, OutFault, with_looked, status_line}
 use Rattle.dm_stream.proofs.runs.status_lines.write_status.Given as goal
 use Rattle.std.specs.Prelude.{◌≡◌}

@@ -19,7 +19,7 @@ returns-in-Ok-clause-read g c = record { list = c.read_list.ensures.read_on; ima
 pub returns-in-Ok-clause-left : goal.returns-in-Ok-clause-left
 returns-in-Ok-clause-left g c = refused_any c.load_images.result (λ refusal memory. tt)
 
--- ---- it was refused
+-- ---- the list was refused
 
 pub returns-in-Err-clause-opened : goal.returns-in-Err-clause-opened
 returns-in-Err-clause-opened g c = λ held seen. list_refused (delivery (g.P.Input.past c.args.self.now.list) (g.P.Input.past c.read_list.new.paths)) held c.in-Err.fault c.in-Err.ensures.refused
@@ -27,7 +27,7 @@ returns-in-Err-clause-opened g c = λ held seen. list_refused (delivery (g.P.Inp
 pub returns-in-Err-clause-read : goal.returns-in-Err-clause-read
 returns-in-Err-clause-read g c = record { list = c.read_list.ensures.read_on; images = inl refl }
 
--- ---- a law of the definitions
+-- ---- at most one opening, a law of the definitions
 
 pub returns-in-Ok-clause-one : goal.returns-in-Ok-clause-one
 returns-in-Ok-clause-one g c = λ old new. one_images (delivery (g.P.Input.past old.list) (g.P.Input.past new.list))

@@ -3,7 +3,7 @@ use Rattle.dmremap.proofs.ListedLemmas.{asked_there, failed_there, read_there, u
 use Rattle.dmremap.proofs.listed_images.ListedImagesDisks.read.Goals as goal
 use Rattle.std.specs.Prelude.{◌≡◌, ◌+◌}
 
--- the path that a list of this value has at a place
+-- a list equal to the one that was searched has the same path at this index
 path_there : (xs paths : List DiskPath) (i : ℕ) (path : DiskPath) → xs ≡ paths → slice_get xs i ≡ Some path → slice_get paths i ≡ Some path
 path_there xs paths i path same is = rw (← same) is
 

@@ -3,7 +3,7 @@ use Rattle.dmremap.proofs.LoadLemmas.{untouched}
 use Rattle.dmremap.proofs.OneWhole.{one_opening}
 use Rattle.dmremap.proofs.parts.PartsOpens.open.Goals as goal
 
--- ---- it was loaded
+-- ---- the parts were loaded
 
 pub returns-in-Ok-clause-opened : goal.returns-in-Ok-clause-opened
 returns-in-Ok-clause-opened g c = λ held seen. c.in-Ok.ensures.gives.sound
@@ -20,7 +20,7 @@ returns-in-Ok-clause-read g c = record {
   images = λ held seen. seen;
 }
 
--- ---- it was refused
+-- ---- the load was refused
 
 pub returns-in-Err-clause-opened : goal.returns-in-Err-clause-opened
 returns-in-Err-clause-opened g c = λ held seen. c.in-Err.ensures.gives.refused
@@ -37,7 +37,7 @@ returns-in-Err-clause-read g c = record {
 pub returns-in-Err-clause-left : goal.returns-in-Err-clause-left
 returns-in-Err-clause-left g c = λ memory. refl
 
--- ---- a law of the definitions
+-- ---- at most one opening, a law of the definitions
 
 pub returns-in-Ok-clause-one : goal.returns-in-Ok-clause-one
 returns-in-Ok-clause-one g c = λ old new held. one_opening old.format _ _

@@ -2,7 +2,7 @@ use Rattle.dm_stream.proofs.Prelude.{ℕ, List, length, take, ap, ◌∙◌, ari
 use Rattle.dm_stream.proofs.pieces.disk_text.DiskText.put_into.Goals as goal
 use Rattle.std.specs.Prelude.{◌≡◌, ◌+◌, ◌++◌}
 
--- what is copied begins with the text
+-- the copied array begins with the text
 pub returns-clause-put : goal.returns-clause-put
 returns-clause-put c =
     let disk = c.self.inside in

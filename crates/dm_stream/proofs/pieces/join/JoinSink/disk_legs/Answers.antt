@@ -2,7 +2,7 @@ use Rattle.dm_stream.proofs.Prelude.{rules, ◌∙◌, Some, refl, sym, ap, subs
 use Rattle.dm_stream.proofs.pieces.RowLemmas.{at_hand, failed_at_range, range_of_leg, took_range}
 use Rattle.dm_stream.proofs.pieces.join.JoinSink.disk_legs.Goals as goal
 
--- The first leg
+-- The first leg of the row
 
 pub range_of-requires : goal.range_of-requires
 range_of-requires g c = leg_on_disk _ c.args.legs c.in-Some.leg c.requires c.in-Some.ensures.leg
@@ -32,7 +32,7 @@ legs-init g c =
       fits = subst (λ (s : Description). IsHeld s (Some (piece_of range))) (sym (ap (λ (h : Pending). h.stack) first.nothing)) first.fits;
     }
 
--- The next one
+-- Every later leg of the row
 
 pub range_of-requires-in-Some-next_leg : goal.range_of-requires-in-Some-next_leg
 range_of-requires-in-Some-next_leg g c = leg_on_disk _ c.legs.legs c.in-Some-next_leg.leg c.legs.invariant.taken.on c.in-Some-next_leg.ensures.leg

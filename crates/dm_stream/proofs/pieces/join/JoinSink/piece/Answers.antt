@@ -3,7 +3,7 @@ use Rattle.dm_stream.proofs.pieces.JoinLemmas.{left_apart}
 use Rattle.dm_stream.proofs.pieces.join.JoinSink.piece.Goals as goal
 use Rattle.std.specs.Prelude.{◌≡◌, ◌+◌}
 
--- a piece that a sink failed at
+-- what the sink's contract asks of a failed call
 failed_at : {S R F : Type 0} {past : SinkPast S} (result : Result R F) {old new : S} {units : List BlockUnit} {len : ℕ} → IsErr result → past.left old units new → (past.view new).faults ≡ (past.view old).faults + 1 → IsHanded past result old new units len
 failed_at (Ok done) is_err left one = absurd cc
 failed_at (Err fault) is_err left one = record { took = tt; left = left; faults = one; stack = tt; room = tt }

@@ -2,7 +2,7 @@ use Rattle.dm_stream.proofs.Prelude.{length, AreMade}
 use Rattle.dm_stream.proofs.pieces.line_ends.LineEnds.new.Given as goal
 use Rattle.std.specs.Prelude.{◌≡◌, ◌-◌, ◌≤◌}
 
--- those so far have their text
+-- the lengths so far have their line ends
 abbrev pub invariant-lengths : goal.invariant-lengths
 invariant-lengths l = (l.len ≤ 1000) × (length l.ends ≡ 1000) × AreMade l.len l.ends
 

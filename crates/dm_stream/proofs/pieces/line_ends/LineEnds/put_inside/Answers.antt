@@ -2,7 +2,7 @@ use Rattle.dm_stream.proofs.Prelude.{ℕ, List, [], length, take, decimal, sym, 
 use Rattle.dm_stream.proofs.pieces.line_ends.LineEnds.put_inside.Goals as goal
 use Rattle.std.specs.Prelude.{◌≡◌, ◌+◌, ◌-◌, ◌≤◌, ◌++◌, ◌∷◌}
 
--- what was put but for its last byte
+-- what was put, without its last byte
 but_last : (last at end : ℕ) (text old new : List ℕ) → at ≤ length old → IsPut (text ++ last ∷ []) at old new end → IsPut text at old new (end - 1)
 but_last last at end text old new within put =
     let front : length (take at old) ≡ at = length-take-le at old within in

@@ -3,7 +3,7 @@ use Rattle.dm_stream.specs.declared.requests.lines.TheConstants.{BUFFER_BYTES}
 use Rattle.dm_stream.proofs.requests.lines.Lines.advance.Given as goal
 use Rattle.std.specs.Prelude.{◌≡◌, ◌-◌, ◌≤◌, ◌++◌, ◌∷◌}
 
--- what came is held, its front was searched, and neither an end nor a fault was met
+-- all bytes read are held, the first `searched` have no newline, and no end and no fault was met
 abbrev pub invariant-turns : goal.invariant-turns
 invariant-turns g l =
     let old = g.H.ReadsFrom.asked l.fn.requests in
