@@ -1,19 +1,11 @@
 -- The words that contracts cite, here and in crates above, from one place.
-pub use Rattle.dm_table.specs.Base.{Bool, Err, IfErr, IfOk, IfSome, IsErr, IsTrue, List, None, Ok, OnErr, OnOk, Some, [], decimal, drop, false, flat_map, get_or, is_ascii_digit, is_some, join_with_byte, length, list_all, map, nat_lt, option_map, string_bytes, take, true, vec_capacity, ℕ}
-pub use Rattle.dm_table.specs.Std.{IfNone, IsOkAnd, Keeps, OnFalse, OnTrue, ReadConsumes, WriteAppends, insert, number_from_digits, option_to_list, prefix_len, sem, slice_index_or, slice_range}
+pub use Rattle.dm_table.specs.Base.{Bool, Disks, Err, IfErr, IfNone, IfOk, IfSome, IsErr, IsOkAnd, IsTrue, Keeps, List, LoadFault, LoadKind, Memory, None, NotText, Ok, OnErr, OnFalse, OnOk, OnTrue, Option, Part, Paths, Place, ReadConsumes, Result, RowFault, Some, Source, WriteAppends, [], ap, append-nil, append_assoc, codes, cond, decimal, digits_value, drop, drop_at, false, flat_map, get_or, insert, is_ascii_digit, is_err, is_some, join_with_byte, length, length-append, list_all, map, map-append, min, nat_lt, number_from_digits, option_map, option_to_list, prefix_len, refl, sem, slice_index_or, slice_range, string_bytes, subst, suc, sym, take, take_at, true, vec_capacity, vec_len, ℕ, ◌∙◌}
 pub use Rattle.dm_table.specs.contracts.io.ghost_list.GhostList.{the_row}
 pub use Rattle.dm_table.specs.declared.io.device_io.OutFault.{OutFault}
-pub use Rattle.dm_table.specs.declared.load.load_fault.LoadFault.{LoadFault}
-pub use Rattle.dm_table.specs.declared.load.load_fault.LoadKind.{LoadKind}
-pub use Rattle.dm_table.specs.declared.load.load_fault.LoadKind.TheVariants.{Cycle, Deep, Empty, Extents, Field, Gap, Limit, Memory, Name, NotText, Overlap, Range, Snapshot, Store, Stripe, Syntax, Twice, Unknown}
-pub use Rattle.dm_table.specs.declared.load.place.Part.{Part}
-pub use Rattle.dm_table.specs.declared.load.place.Part.TheVariants.{Disks, Paths, Source}
-pub use Rattle.dm_table.specs.declared.load.place.Place.{Place}
+pub use Rattle.dm_table.specs.declared.load.load_fault.LoadKind.TheVariants.{Field, Name, Syntax}
 pub use Rattle.dm_table.specs.declared.load.row_faults.FirstFaults.{FirstFaults}
-pub use Rattle.dm_table.specs.declared.load.row_faults.RowFault.{RowFault}
 pub use Rattle.dm_table.specs.declared.requests.request.Op.{Op}
 pub use Rattle.dm_table.specs.declared.requests.request.Op.TheVariants.{Read, Write}
-pub use Rattle.dm_table.specs.declared.requests.request.Request.{Request}
 pub use Rattle.dm_table.specs.declared.requests.request.RequestFault.{RequestFault}
 pub use Rattle.dm_table.specs.declared.requests.request.RequestFault.TheVariants.{Form, Length, Number}
 pub use Rattle.dm_table.specs.declared.tables.disk.Disk.{Disk}
@@ -26,8 +18,6 @@ pub use Rattle.dm_table.specs.declared.tables.table.StoreKind.{StoreKind}
 pub use Rattle.dm_table.specs.declared.tables.table.StoreKind.TheVariants.{Keeping, Persistent, Transient}
 pub use Rattle.dm_table.specs.declared.tables.table.Target.{Target}
 pub use Rattle.dm_table.specs.declared.tables.table.Target.TheVariants.{Error, Linear, Origin, Striped, Zero}
-pub use Rattle.dm_table.specs.declared.tables.table.Use.{Use}
-pub use Rattle.dm_table.specs.declared.tables.table.Use.TheVariants.{Own, Reading, Serving}
 pub use Rattle.dm_table.specs.io.Block.{IsPut}
 pub use Rattle.dm_table.specs.io.DeviceIo.{Clean, Delivery, Failed, InputPast, Open, OutputPast, Stand, after_flush, after_read, after_write, delivery, ends_added, fault_of, given, since, stand_of, unflushed, with_fault, written_since}
 pub use Rattle.dm_table.specs.io.Gathered.{Gathering, MindsFaults, past_of}
@@ -39,7 +29,7 @@ pub use Rattle.dm_table.specs.load.LoadFault.{Answers, IsMemoryFault, fault, fau
 pub use Rattle.dm_table.specs.load.LoadMessage.{kind_message, kind_word, load_message, memory_message, part_word}
 pub use Rattle.dm_table.specs.load.Parsed.{IsParsed}
 pub use Rattle.dm_table.specs.load.PartInput.{PartRead, Refuses, TextOf, Unread, part_read}
-pub use Rattle.dm_table.specs.load.Reading.{LinesSay, SayEach, values_from, with_rows}
+pub use Rattle.dm_table.specs.load.Reading.{LinesSay, SayEach, line_checks, values_from, with_rows}
 pub use Rattle.dm_table.specs.load.RowFaults.{Reads, either, fault_in, first_failed, first_noted, no_faults, noted, noted_at, noted_rest, noted_rows, row_fault, said_unless}
 pub use Rattle.dm_table.specs.requests.RequestLine.{AreNumbers, DescribesRequest, IsFront, RequestValues, are_two, has_form, is_length, is_op, op_text, request_reading, request_text, row_of, values_in, values_of, values_reading}
 pub use Rattle.dm_table.specs.tables.CanonicalText.{ReadsBack, as_concise, as_table, concise_device, concise_text, flag_text, lines_at, lines_text, placed_lines, table_text}

@@ -1,9 +1,8 @@
 -- Sectors of a disk of a list, as a read of its image has them.
-use Rattle.dmremap.proofs.Prelude.{◌∙◌, ℕ, List, Some, Result, Ok, Err, arith, length, slice_get, refl, sym, ap, DiskPath, Contents, AreRead, listed_disks, on_disk}
+use Rattle.dmremap.proofs.Prelude.{◌∙◌, ℕ, List, Some, Result, Ok, Err, arith, slice_get, refl, sym, ap, DiskPath, Contents, AreRead, listed_disks, on_disk, ReadFault as HeadReadFault}
 use Rattle.dm_store.specs.declared.images.ReadFault.{ReadFault}
 use Rattle.dm_store.specs.Images.{AreRead as AreImagesRead}
-use Rattle.lvm_head.specs.declared.disks.ReadFault.{ReadFault as HeadReadFault}
-use Rattle.std.specs.Prelude.{◌≡◌, ◌+◌, ◌*◌, ◌<◌}
+use Rattle.std.specs.Prelude.{◌≡◌, ◌+◌}
 
 here : (held : Contents) (paths : List DiskPath) (path : DiskPath) (disk sector from : ℕ) → slice_get paths disk ≡ Some path → from ≡ path.start + sector → listed_disks paths held disk sector ≡ on_disk (held path.at.number path.file from)
 here held paths path disk sector from is at = rw (is, at) refl

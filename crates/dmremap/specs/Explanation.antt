@@ -1,6 +1,5 @@
 -- What is said of the word of a message: the texts of its rows in the table that is made of the manual.
-use Rattle.dmremap.specs.Base.{Bool, List, [], Option, None, Some, codes, drop, filter, length, map, option_map, take, join_with_byte, list_any, option_map_or, bytes_eq, code}
-use Rattle.clap.specs.Words.{Text}
+use Rattle.dmremap.specs.Base.{Bool, List, [], Option, None, Some, codes, drop, filter, length, map, option_map, take, join_with_byte, list_any, option_map_or, bytes_eq, code, Text}
 use Rattle.dmremap.specs.declared.messages.TheConstants.{FIRST_ENTRIES, LATER_ENTRIES}
 use Rattle.std.specs.Prelude.{◌∷◌, ◌&&◌, ◌||◌, if◌then◌else◌}
 

@@ -1,7 +1,6 @@
 -- The words that contracts cite, here and in crates above, from one place.
-pub use Rattle.dm_table.specs.Std.{IfErr, IfOk, OnOk}
 pub use Rattle.lvm_head.specs.Areas.{is_header, is_near, is_none, is_within, location_in, ring_place}
-pub use Rattle.lvm_head.specs.Base.{Err, Ok, [], bytes_eq, false, length, list_any, map, nat_le, nat_lt, not, slice_index, slice_range, slice_split, true, ℕ}
+pub use Rattle.lvm_head.specs.Base.{Area, Array, Differ, Err, HeadFault, Header, IfErr, IfOk, Label, Long, Memory, Ok, OnOk, Partitions, ReadFault, Text, Unread, [], bytes_eq, false, length, list_any, map, nat_le, nat_lt, not, slice_index, slice_range, slice_split, true, ℕ}
 pub use Rattle.lvm_head.specs.Disks.{AreRead, Contents, Sectors, answer, needed, sector_in, ◌>>=◌}
 pub use Rattle.lvm_head.specs.FirstFound.{earlier}
 unfoldable pub use Rattle.lvm_head.specs.FirstFound.{first_found}
@@ -15,8 +14,3 @@ pub use Rattle.lvm_head.specs.Sums.{sum_of}
 unfoldable pub use Rattle.lvm_head.specs.Sums.{sum_bit, sum_byte}
 pub use Rattle.lvm_head.specs.Texts.{area_text, byte_at, ended, ring_bytes, text_at}
 unfoldable pub use Rattle.lvm_head.specs.Texts.{gathered}
-pub use Rattle.lvm_head.specs.declared.area.Area.{Area}
-pub use Rattle.lvm_head.specs.declared.disks.ReadFault.{ReadFault}
-pub use Rattle.lvm_head.specs.declared.fault.HeadFault.{HeadFault}
-pub use Rattle.lvm_head.specs.declared.fault.HeadFault.TheVariants.{Array, Differ, Ends, Header, Label, Long, Memory, Partitions, Text, Unread}
-pub use Rattle.lvm_head.specs.declared.fault.HeadRefusal.{HeadRefusal}

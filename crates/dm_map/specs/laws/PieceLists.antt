@@ -1,7 +1,6 @@
 -- The laws of a sink, for a list of pieces. They are among the specs since its impl cites them.
 use Rattle.dm_map.specs.Base.{List, [], append_assoc, sym, ap, ◌∙◌, append-nil}
-use Rattle.dm_map.specs.pieces.Units.{BlockUnit}
-use Rattle.dm_map.specs.pieces.Sink.{OfBeginning}
+use Rattle.dm_map.specs.Prelude.{BlockUnit, OfBeginning}
 use Rattle.dm_map.specs.pieces.PieceList.{PieceListView, Appends, units_of_all}
 use Rattle.std.specs.Prelude.{◌++◌}
 

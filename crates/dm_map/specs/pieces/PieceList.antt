@@ -1,6 +1,5 @@
 -- A list of pieces as a sink.
-use Rattle.dm_map.specs.Base.{ℕ, List, flat_map, Description, Piece}
-use Rattle.dm_map.specs.pieces.Units.{BlockUnit, units_of}
+use Rattle.dm_map.specs.Prelude.{ℕ, List, flat_map, Description, Piece, BlockUnit, units_of}
 use Rattle.std.specs.Prelude.{◌≡◌, ◌++◌}
 
 -- the pieces that were taken, and the count of those that were not

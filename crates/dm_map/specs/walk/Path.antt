@@ -1,6 +1,5 @@
 -- The path of a sector that is read, and the stretches of a read: its sectors in runs of one path.
-use Rattle.dm_map.specs.Base.{ℕ, zero, suc, Bool, List, [], Option, Some, None, nat_lt, pointwise, Lower, Device, Disk, ResolvedLine, Description, device_len, below_target, chunk_at, found_at, is_same_chunk}
-use Rattle.dm_stack.specs.declared.checks.graph.TheConstants.{MOST_DEPTH}
+use Rattle.dm_map.specs.Base.{ℕ, zero, suc, Bool, List, [], Option, Some, None, nat_lt, pointwise, Lower, Device, Disk, ResolvedLine, Description, device_len, below_target, chunk_at, found_at, is_same_chunk, MOST_DEPTH}
 use Rattle.dm_map.specs.walk.Reads.{by_below}
 use Rattle.dm_map.specs.state.Snapshots.{read_over}
 use Rattle.dm_map.specs.state.State.{State, taken_at}

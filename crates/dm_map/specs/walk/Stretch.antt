@@ -1,6 +1,5 @@
 -- What a stretch is read from.
-use Rattle.dm_map.specs.Base.{ℕ, Read, Lower, Description}
-use Rattle.dm_stack.specs.declared.checks.limits.TheConstants.{MOST_LENGTH}
+use Rattle.dm_map.specs.Base.{ℕ, Read, Lower, Description, MOST_LENGTH}
 use Rattle.dm_map.specs.declared.walk.stretch.Ground.{Ground}
 use Rattle.dm_map.specs.declared.walk.stretch.Ground.TheVariants as grounds
 use Rattle.dm_map.specs.declared.walk.stretch.Stretch.{Stretch}

@@ -3,8 +3,7 @@
 //! A chunk is found by a walk over those that were taken, so it suits snapshots with few of them.
 //! All memory is reserved when the list is made.
 
-ghost use Rattle.dm_map.specs.Base.{length, nat_eq, IsDistinct, IsDistinct-prop};
-ghost use Rattle.dm_map.specs.state.Snapshots.{number_in};
+ghost use Rattle.dm_map.specs.Prelude.{length, nat_eq, IsDistinct, IsDistinct-prop, number_in};
 ghost use Rattle.std.specs.Prelude.{◌≡◌, ◌≤◌};
 
 use crate::state::taken::Taken;

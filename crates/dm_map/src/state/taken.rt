@@ -5,8 +5,7 @@
 //! whether the snapshot is still valid. A way to keep them is an implementation; `PlainTaken` is the
 //! plainest. A chunk's number, its index in that list, says where in the store it is.
 
-ghost use Rattle.dm_map.specs.Base.{ℕ, [], Bool, true, false, List, None, is_none, length, nat_eq, IfOk, IsDistinct};
-ghost use Rattle.dm_map.specs.state.Snapshots.{number_in};
+ghost use Rattle.dm_map.specs.Prelude.{ℕ, [], Bool, true, false, List, None, is_none, length, nat_eq, IfOk, IsDistinct, number_in};
 ghost use Rattle.std.specs.Prelude.{◌≡◌, ◌<◌, ◌≤◌, ◌==◌, ◌∷◌, ◌++◌, if◌then◌else◌};
 
 use std::alloc::{AllocError, Global};

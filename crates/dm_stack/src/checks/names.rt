@@ -3,9 +3,7 @@
 //! Indexing names is what finds one that stands twice, so that nothing walks them again for it.
 //! The number of a name in its index is the id of the device or disk that has it.
 
-ghost use Rattle.dm_stack.specs.Base.{ℕ, IfErr, IfOk, List, None, OnOk, Some, map, Memory, Source, Answers, IsMemoryFault, first_or, unless};
-ghost use Rattle.dm_stack.specs.Description.{described};
-ghost use Rattle.dm_stack.specs.checks.Soundness.{twice, twice_in};
+ghost use Rattle.dm_stack.specs.Prelude.{ℕ, IfErr, IfOk, List, None, OnOk, Some, map, Memory, Source, Answers, IsMemoryFault, first_or, unless, described, twice, twice_in};
 ghost use Rattle.std.specs.Prelude.{◌≡◌, ◌≢◌};
 
 use crate::checks::faults::{Placed, out_of_memory};

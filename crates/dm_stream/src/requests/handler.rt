@@ -4,9 +4,7 @@
 //! handler says what becomes of a request, and why it stops; its relations speak of requests in a row, so
 //! the reader of lines knows nothing of answers.
 
-ghost use Rattle.dm_stream.specs.Base.{List, [], length, OnOk, IfErr, IfOk, InputPast, after_read, Description};
-ghost use Rattle.dm_stream.specs.runs.Outcome.{device_of};
-ghost use Rattle.dm_stream.specs.requests.Requests.{NumberedRequest, numbered};
+ghost use Rattle.dm_stream.specs.Prelude.{List, [], length, OnOk, IfErr, IfOk, InputPast, after_read, Description, device_of, NumberedRequest, numbered};
 ghost use Rattle.std.specs.Prelude.{◌≡◌, ◌≤◌, ◌∷◌, ◌++◌};
 
 use crate::requests::front::Front;

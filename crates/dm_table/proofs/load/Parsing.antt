@@ -1,6 +1,5 @@
 -- A reader that gives the values of a text where its checks find nothing, and else their fault, keeps what is promised of readers.
-use Rattle.dm_table.proofs.Prelude.{List, None, Result, Ok, Err, refl, sym, ap, subst, ◌∙◌, Part, LoadFault, Answers, first_fault, unless, IsParsed}
-use Rattle.std.specs.Global.{Vec}
+use Rattle.dm_table.proofs.Prelude.{List, None, Result, Ok, Err, refl, sym, ap, subst, ◌∙◌, Part, LoadFault, Answers, first_fault, unless, IsParsed, Vec}
 use Rattle.dm_table.proofs.load.FaultLemmas.{unless-ok, unless-err}
 use Rattle.std.specs.Prelude.{◌≡◌}
 

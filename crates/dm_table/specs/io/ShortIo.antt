@@ -1,6 +1,5 @@
 -- What the devices over memory hold, and what a call of one does.
-use Rattle.dm_table.specs.Base.{ℕ, List, [], length, min, Bool, true, false, Result, IsErr, IfOk}
-use Rattle.dm_table.specs.io.DeviceIo.{InputPast, OutputPast, given}
+use Rattle.dm_table.specs.Prelude.{ℕ, List, [], length, min, Bool, true, false, Result, IsErr, IfOk, InputPast, OutputPast, given}
 use Rattle.std.specs.Prelude.{◌≡◌, ◌↔◌, ◌+◌, ◌++◌, ◌<◌}
 
 -- an input: its past, what it has left, the most bytes of a read, and whether it fails at the end of them

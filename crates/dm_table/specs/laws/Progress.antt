@@ -1,6 +1,5 @@
 -- Laws of how inputs and outputs moved on: what is new in a list that grew, and what an output took in two steps.
-use Rattle.dm_table.specs.Base.{ℕ, List, [], length, drop, MutBor, sym, ap, ◌∙◌, refl, append_assoc, append-nil}
-use Rattle.std.proofs.Common.{add-zero}
+use Rattle.dm_table.specs.Base.{ℕ, List, [], length, drop, MutBor, sym, ap, ◌∙◌, refl, append_assoc, append-nil, add-zero}
 use Rattle.std.proofs.Math.Seq.{drop-append_seam}
 use Rattle.dm_table.specs.io.DeviceIo.{InputPast, OutputPast, since}
 use Rattle.dm_table.specs.io.Progress.{HasWritten, HasWrittenTo, IsClosedAfter, IsFinished}

@@ -1,8 +1,7 @@
 //! An input and an output over memory that go short and fail where a test wants it.
 //! What each call does is said exactly, so that a test over them shows what it claims to.
 //! Where one met its end or its fault, each later call meets it too: keep that, and that calls are exact.
-ghost use Rattle.dm_table.specs.Base.{length, take, drop, true, false, is_err, IsErr, IsTrue, IfOk, vec_len, vec_capacity};
-ghost use Rattle.dm_table.specs.io.DeviceIo.{after_flush, after_read, after_write, fault_of};
+ghost use Rattle.dm_table.specs.Prelude.{length, take, drop, true, false, is_err, IsErr, IsTrue, IfOk, vec_len, vec_capacity, after_flush, after_read, after_write, fault_of};
 ghost use Rattle.dm_table.specs.io.ShortIo.{Supply, fresh_supply, Intake, fresh_intake, HandsOut, TakesIn, PassesOn};
 ghost use Rattle.std.specs.Prelude.{◌≡◌, ◌+◌, ◌<◌, ◌≤◌, ◌++◌, ◌↔◌, ◌||◌, if◌then◌else◌};
 

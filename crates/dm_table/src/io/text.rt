@@ -4,8 +4,7 @@
 //! of a fixed size is copied whole, past the end of its text: the cheapest copy, and what stands
 //! after a text in a block is never read.
 
-ghost use Rattle.dm_table.specs.Base.{ℕ, List, length};
-ghost use Rattle.dm_table.specs.io.Block.{IsPut};
+ghost use Rattle.dm_table.specs.Prelude.{ℕ, List, length, IsPut};
 ghost use Rattle.std.specs.Prelude.{◌≡◌, ◌+◌, ◌≤◌};
 
 /// The bytes of a block that a text may use from its offset on.

@@ -1,5 +1,5 @@
 -- What a check finds first.
-use Rattle.lvm_volume.proofs.Prelude.{ℕ, suc, List, [], inl, inr, Option, Some, None, Result, Ok, Err, refl, sym, arith, append_assoc, flat_map, range_with_len, result_err, Source, LoadFault, IsMemoryFault, first_or, unless, IsChecked}
+use Rattle.lvm_volume.proofs.Prelude.{ℕ, suc, List, [], inl, inr, Option, Some, None, Result, Ok, Err, refl, sym, arith, append_assoc, flat_map, range_with_len, result_err, Source, LoadFault, IsMemoryFault, first_or, IsChecked}
 use Rattle.std.specs.Prelude.{◌≡◌, ◌+◌, ◌-◌, ◌<◌, ◌∷◌, ◌++◌, ◌⊎◌}
 
 -- what is found first is found first of more, and where nothing is found the others are asked
