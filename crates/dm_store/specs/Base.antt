@@ -14,3 +14,4 @@ pub use Rattle.dm_store.specs.declared.store.Store.{Store}
 pub use Rattle.dm_table.specs.Std.{AllByRecursion, Bool, Err, IfErr, IfNone, IfOk, IfSome, List, None, Ok, OnErr, OnOk, Option, Result, Some, [], codes, drop, false, find, is_some, length, map, nat_eq, nat_le, nat_lt, not, option_map, slice_index, slice_index_or, slice_range, string_bytes, suc, take, true, zero, ℕ}
 unfoldable pub use Rattle.dm_table.specs.Std.{IsDistinct}
 pub use Rattle.dm_table.specs.declared.tables.table.StoreKind.TheVariants.{Persistent, Transient}
+pub use Rattle.dm_table.specs.io.LittleEndian.{eight_at, four_at}

@@ -16,7 +16,6 @@ mod layout;
 mod list;
 mod memory_images;
 mod message;
-mod numbers;
 mod pair;
 mod read_log;
 mod row_range;

@@ -2,6 +2,7 @@
 pub mod Block
 pub mod DeviceIo
 pub mod Gathered
+pub mod LittleEndian
 pub mod Progress
 pub mod ShortIo
 pub mod WriteAll

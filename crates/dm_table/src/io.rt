@@ -10,6 +10,7 @@ pub mod counted;
 pub mod device_io;
 pub mod gathered;
 pub mod ghost_list;
+pub mod little_endian;
 pub mod short_io;
 pub mod text;
 pub mod writing;

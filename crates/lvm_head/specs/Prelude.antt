@@ -1,6 +1,6 @@
 -- The words that contracts cite, here and in crates above, from one place.
 pub use Rattle.lvm_head.specs.Areas.{is_header, is_near, is_none, is_within, location_in, ring_place}
-pub use Rattle.lvm_head.specs.Base.{Area, Array, Differ, Err, HeadFault, Header, IfErr, IfOk, Label, Long, Memory, Ok, OnOk, Partitions, ReadFault, Text, Unread, [], bytes_eq, false, length, list_any, map, nat_le, nat_lt, not, slice_index, slice_range, slice_split, true, ℕ}
+pub use Rattle.lvm_head.specs.Base.{Area, Array, Differ, Err, HeadFault, Header, IfErr, IfOk, Label, Long, Memory, Ok, OnOk, Partitions, ReadFault, Text, Unread, [], bytes_eq, eight_at, false, four_at, length, list_any, map, nat_le, nat_lt, not, slice_index, slice_range, slice_split, true, ℕ}
 pub use Rattle.lvm_head.specs.Disks.{AreRead, Contents, Sectors, answer, needed, sector_in, ◌>>=◌}
 pub use Rattle.lvm_head.specs.FirstFound.{earlier}
 unfoldable pub use Rattle.lvm_head.specs.FirstFound.{first_found}
@@ -9,7 +9,6 @@ unfoldable pub use Rattle.lvm_head.specs.Heads.{areas_text, heads_from}
 pub use Rattle.lvm_head.specs.Labels.{area_at, areas_in, areas_of, has_sectors, header_at, id_of, is_entry, is_member, is_partitioned, is_sound, is_taken, label_in, label_of, or_no_label, pairs_of, undivided}
 pub use Rattle.lvm_head.specs.Laws.{HasBytes, IsEnded, IsTheLabel, IsUndivided, ReadsBack, SpellsArea, SpellsText}
 pub use Rattle.lvm_head.specs.Message.{fault_word, head_message}
-unfoldable pub use Rattle.lvm_head.specs.Numbers.{eight_at, four_at}
 pub use Rattle.lvm_head.specs.Sums.{sum_of}
 unfoldable pub use Rattle.lvm_head.specs.Sums.{sum_bit, sum_byte}
 pub use Rattle.lvm_head.specs.Texts.{area_text, byte_at, ended, ring_bytes, text_at}

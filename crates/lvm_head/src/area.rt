@@ -5,8 +5,8 @@ ghost use Rattle.lvm_head.specs.declared.disks.TheConstants.{MOST_BYTES, SECTOR}
 ghost use Rattle.std.specs.Prelude.{◌≡◌, ◌+◌, ◌<◌, ◌≤◌, ◌/◌, ◌^◌, ◌%◌};
 
 use crate::disks::{MOST_BYTES, SECTOR};
-use crate::numbers::{eight_at, four_at};
 use crate::sums::sum_of;
+use dm_table::{eight_at, four_at};
 
 /// ` LVM2 x[` and `5A%r0N*>`.
 const MAGIC: u64 = 0x5B78_2032_4D56_4C20;

@@ -7,9 +7,9 @@ ghost use Rattle.std.specs.Prelude.{◌≡◌, ◌+◌, ◌<◌, ◌≤◌, ◌=
 use crate::area::Area;
 use crate::disks::{Disks, ReadFault, SECTOR, read_sector};
 use crate::fault::HeadFault;
-use crate::numbers::{eight_at, four_at};
 use crate::sums::sum_of;
 use arrayvec::ArrayVec;
+use dm_table::{eight_at, four_at};
 use std::alloc::{AllocError, Global};
 use std::marker::Model;
 

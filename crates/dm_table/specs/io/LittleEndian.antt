@@ -1,5 +1,5 @@
--- Numbers in a sector: the least significant byte is the first.
-use Rattle.lvm_head.specs.Base.{ℕ, List, drop}
+-- Numbers in bytes: the least significant byte is the first.
+use Rattle.dm_table.specs.Base.{ℕ, List, drop}
 use Rattle.byteorder.specs.Endian.{little_number}
 
 -- the number of the 4 bytes from here on

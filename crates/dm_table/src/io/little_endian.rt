@@ -1,14 +1,15 @@
-//! Numbers in a sector, the least significant byte first.
+//! Numbers in bytes, the least significant byte first.
 
-ghost use Rattle.lvm_head.specs.Prelude.{length, eight_at, four_at};
+ghost use Rattle.dm_table.specs.Base.{length};
+ghost use Rattle.dm_table.specs.io.LittleEndian.{eight_at, four_at};
 ghost use Rattle.std.specs.Prelude.{◌≡◌, ◌+◌, ◌≤◌};
 
 use byteorder::{ByteOrder, LittleEndian};
 
 /// The number of four bytes, from a byte on.
 #[inline(always)]
-#[tactic(auto, unfolding(crate::specs::Numbers::four_at))]
-pub(crate) fn four_at(bytes: &[u8], at: usize) -> u32
+#[tactic(auto, unfolding(crate::specs::io::LittleEndian::four_at))]
+pub fn four_at(bytes: &[u8], at: usize) -> u32
     requires { at + 4 ≤ length bytes.now }
     ensures { result ≡ four_at bytes.now at }
 {
@@ -17,8 +18,8 @@ pub(crate) fn four_at(bytes: &[u8], at: usize) -> u32
 
 /// The number of eight bytes, from a byte on.
 #[inline(always)]
-#[tactic(auto, unfolding(crate::specs::Numbers::eight_at))]
-pub(crate) fn eight_at(bytes: &[u8], at: usize) -> u64
+#[tactic(auto, unfolding(crate::specs::io::LittleEndian::eight_at))]
+pub fn eight_at(bytes: &[u8], at: usize) -> u64
     requires { at + 8 ≤ length bytes.now }
     ensures { result ≡ eight_at bytes.now at }
 {
