@@ -15,3 +15,4 @@ pub use Rattle.dm_table.specs.Std.{AllByRecursion, Bool, Err, IfErr, IfNone, IfO
 unfoldable pub use Rattle.dm_table.specs.Std.{IsDistinct}
 pub use Rattle.dm_table.specs.declared.tables.table.StoreKind.TheVariants.{Persistent, Transient}
 pub use Rattle.dm_table.specs.io.LittleEndian.{eight_at, four_at}
+pub use Rattle.dm_table.specs.io.Sectors.{AreRead, sector_in}

@@ -1,22 +1,13 @@
 -- What images hold, and what disks do that lie in them.
-use Rattle.dm_store.specs.Base.{ℕ, List, Option, Some, None, Result, Ok, Err, length, slice_range, slice_index_or, SectorFault, Missing, Read}
-use Rattle.dm_store.specs.declared.images.ReadFault.{ReadFault}
+use Rattle.dm_store.specs.Base.{ℕ, List, Option, Some, None, Result, Ok, Err, slice_index_or, SectorFault, Missing, Read}
+use Rattle.dm_table.specs.declared.io.sectors.ReadFault.{ReadFault}
 use Rattle.dm_store.specs.Places.{Place}
 use Rattle.dm_store.specs.Pairs.{Sectors}
-use Rattle.std.specs.Prelude.{◌≡◌, ◌+◌, ◌*◌, ◌<◌}
+use Rattle.std.specs.Prelude.{◌+◌}
 
 -- what each sector of each image holds, or that it can't be read; an image is named by its line in a list, and by its path
 abbrev pub Contents : Type 0
 Contents = (line : ℕ) → (path : List ℕ) → (sector : ℕ) → Result (List ℕ) ReadFault
-
--- the bytes of the sector with this index among sectors in a row
-abbrev pub sector_in : (bytes : List ℕ) → (index : ℕ) → List ℕ
-sector_in bytes index = slice_range bytes (512 * index) (512 * index + 512)
-
--- what a read of some sectors in a row says of them: each holds its part of what was read; where one alone was asked for, it can't be read, and of more a fault says nothing
-abbrev pub AreRead : {F : Type 0} → (sectors : ℕ → Result (List ℕ) F) → (from : ℕ) → Result (Unit {0}) F → (bytes : List ℕ) → Type 0
-AreRead sectors from (Ok done) bytes = (i : ℕ) → 512 * i < length bytes → sectors (from + i) ≡ Ok (sector_in bytes i)
-AreRead sectors from (Err fault) bytes = length bytes ≡ 512 → sectors from ≡ Err fault
 
 -- what each sector of each disk holds, or why it can't be read
 abbrev pub DiskContents : Type 0

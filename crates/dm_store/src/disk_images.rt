@@ -1,7 +1,7 @@
 //! Which image each disk of a stack lies in.
 
 ghost use Rattle.dm_store.specs.Prelude.{None, Some, IfNone, IfSome, length, AreRead, Contents, disk_contents, place_of};
-ghost use Rattle.dm_store.specs.declared.images.TheConstants.{MOST_BYTES, SECTOR};
+ghost use Rattle.dm_table.specs.declared.io.sectors.TheConstants.{MOST_BYTES, SECTOR};
 ghost use Rattle.std.specs.Prelude.{◌≡◌, ◌+◌, ◌<◌, ◌≤◌, ◌%◌, ◌^◌};
 
 use crate::fault::SectorFault;

@@ -1,7 +1,7 @@
 //! The header of a store.
 
 ghost use Rattle.dm_store.specs.Prelude.{Ok, length, told_header, Stored, by_header};
-ghost use Rattle.dm_store.specs.declared.images.TheConstants.{SECTOR};
+ghost use Rattle.dm_table.specs.declared.io.sectors.TheConstants.{SECTOR};
 ghost use Rattle.std.specs.Prelude.{◌≡◌};
 
 use crate::fault::StoreFault;

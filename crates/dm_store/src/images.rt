@@ -4,19 +4,12 @@
 //! that was read so far, and these are exactly the ones that agree with each read. If an image gives other bytes
 //! for a sector than it gave before, none do.
 
-ghost use Rattle.dm_store.specs.Base.{length};
-ghost use Rattle.dm_store.specs.Images.{AreRead, Contents};
+ghost use Rattle.dm_store.specs.Base.{AreRead, length};
+ghost use Rattle.dm_store.specs.Images.{Contents};
+ghost use Rattle.dm_table.specs.declared.io.sectors.TheConstants.{MOST_BYTES, SECTOR};
 ghost use Rattle.std.specs.Prelude.{◌≡◌, ◌<◌, ◌≤◌, ◌%◌, ◌^◌};
 
-/// The bytes of a sector.
-pub const SECTOR: usize = 512;
-
-/// The most bytes of one read.
-pub const MOST_BYTES: usize = 65_536;
-
-/// An image that can't be opened or read, or ends before.
-#[derive(Clone, Copy, Debug, PartialEq, Eq, Drop)]
-pub struct ReadFault;
+pub use dm_table::{MOST_BYTES, ReadFault, SECTOR};
 
 /// Images, each named by its line in a list, and by its path.
 pub trait Images {

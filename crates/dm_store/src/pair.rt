@@ -1,7 +1,7 @@
 //! Pairs of a list: an old chunk, and the new chunk that keeps it.
 
 ghost use Rattle.dm_store.specs.Prelude.{length, pair_in, are_zeros};
-ghost use Rattle.dm_store.specs.declared.images.TheConstants.{SECTOR};
+ghost use Rattle.dm_table.specs.declared.io.sectors.TheConstants.{SECTOR};
 ghost use Rattle.std.specs.Prelude.{◌≡◌, ◌<◌};
 
 use dm_table::eight_at;

@@ -4,5 +4,6 @@ pub mod DeviceIo
 pub mod Gathered
 pub mod LittleEndian
 pub mod Progress
+pub mod Sectors
 pub mod ShortIo
 pub mod WriteAll

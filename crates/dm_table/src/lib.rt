@@ -19,6 +19,7 @@ pub use io::device_io::{InFault, Input, OutFault, Output};
 pub use io::gathered::Gathered;
 pub use io::ghost_list::{GhostList, Tally};
 pub use io::little_endian::{eight_at, four_at};
+pub use io::sectors::{MOST_BYTES, ReadFault, SECTOR};
 pub use io::short_io::{ShortIn, ShortOut};
 pub use io::text::Text;
 pub use io::writing::{close, write_all};

@@ -4,8 +4,8 @@ ghost use Rattle.dmremap.specs.Prelude.{AreSeen};
 ghost use Rattle.std.specs.Prelude.{◌≡◌};
 
 use dm_store::Images;
-use dm_table::DiskPath;
-use lvm_head::{Disks, ReadFault};
+use dm_table::{DiskPath, ReadFault};
+use lvm_head::Disks;
 use std::alloc::Global;
 
 /// Images, and the list that says which disks lie in them.
@@ -37,12 +37,7 @@ impl<I: Images> Disks for ListedImages<I> {
             return Err(ReadFault);
         };
         let start = path.start.number() + sector;
-        match self
-            .images
+        self.images
             .read(path.at.number, path.file.as_str(), start, into)
-        {
-            Ok(()) => Ok(()),
-            Err(_) => Err(ReadFault),
-        }
     }
 }

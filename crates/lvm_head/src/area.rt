@@ -1,7 +1,7 @@
 //! Metadata areas, and where their texts lie.
 
 ghost use Rattle.lvm_head.specs.Prelude.{ℕ, true, false, length, is_header, is_near, is_none, is_within, location_in, ring_place, eight_at};
-ghost use Rattle.lvm_head.specs.declared.disks.TheConstants.{MOST_BYTES, SECTOR};
+ghost use Rattle.dm_table.specs.declared.io.sectors.TheConstants.{MOST_BYTES, SECTOR};
 ghost use Rattle.std.specs.Prelude.{◌≡◌, ◌+◌, ◌<◌, ◌≤◌, ◌/◌, ◌^◌, ◌%◌};
 
 use crate::disks::{MOST_BYTES, SECTOR};

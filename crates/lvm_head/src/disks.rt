@@ -4,20 +4,13 @@
 //! read so far, and these are exactly the ones that agree with each read. If a disk gives other bytes for a sector
 //! than it gave before, none do.
 
-ghost use Rattle.lvm_head.specs.Base.{List, length};
+ghost use Rattle.lvm_head.specs.Base.{AreRead, List, length};
 ghost use Rattle.dm_table.specs.declared.tables.disk_path.DiskPath.{DiskPath};
-ghost use Rattle.lvm_head.specs.Disks.{AreRead, Contents, answer};
+ghost use Rattle.dm_table.specs.declared.io.sectors.TheConstants.{MOST_BYTES, SECTOR};
+ghost use Rattle.lvm_head.specs.Disks.{Contents, answer};
 ghost use Rattle.std.specs.Prelude.{◌≡◌, ◌≤◌, ◌%◌, ◌^◌};
 
-/// The bytes of a sector.
-pub const SECTOR: usize = 512;
-
-/// The most bytes of one read.
-pub const MOST_BYTES: usize = 65_536;
-
-/// A sector that can't be read, or that comes after the end.
-#[derive(Clone, Copy, Debug, PartialEq, Eq, Drop)]
-pub struct ReadFault;
+pub use dm_table::{MOST_BYTES, ReadFault, SECTOR};
 
 /// Disks, each named by its number.
 pub trait Disks {

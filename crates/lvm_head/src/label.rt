@@ -1,7 +1,7 @@
 //! The label of a physical volume, and the header in its sector.
 
 ghost use Rattle.lvm_head.specs.Prelude.{true, IfOk, length, map, slice_split, Contents, Returns, area_at, areas_in, has_sectors, header_at, id_of, is_entry, is_member, is_partitioned, is_sound, is_taken, label_of, pairs_of, undivided};
-ghost use Rattle.lvm_head.specs.declared.disks.TheConstants.{SECTOR};
+ghost use Rattle.dm_table.specs.declared.io.sectors.TheConstants.{SECTOR};
 ghost use Rattle.std.specs.Prelude.{◌≡◌, ◌+◌, ◌<◌, ◌≤◌, ◌==◌, ◌-◌, ◌/◌};
 
 use crate::area::Area;
