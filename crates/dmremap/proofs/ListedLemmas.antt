@@ -6,11 +6,11 @@ here : (held : Contents) (paths : List DiskPath) (path : DiskPath) (disk sector 
 here held paths path disk sector from is at = rw (is, at) refl
 
 -- what is read of an image is what the disk holds, and what the disk holds is what is read of the image
-pub read_there : (held : Contents) (paths : List DiskPath) (path : DiskPath) (disk sector from : ℕ) (result : Result (Unit {0}) ReadFault) (bytes : List ℕ) → slice_get paths disk ≡ Some path → from ≡ path.start + sector
-    → AreRead (held path.at.number path.file) from result bytes ↔ AreRead (listed_disks paths held disk) sector result bytes
-read_there held paths path disk sector from (Ok done) bytes is at =
-    let each : (i : ℕ) → listed_disks paths held disk (sector + i) ≡ held path.at.number path.file (from + i) = λ i. here held paths path disk (sector + i) (from + i) is (omega (arith, at)) in
+pub read_there : (sectors : ℕ → Result (List ℕ) ReadFault) (held : Contents) (paths : List DiskPath) (path : DiskPath) (disk sector from : ℕ) (result : Result (Unit {0}) ReadFault) (bytes : List ℕ)
+    → ((at : ℕ) → sectors at ≡ listed_disks paths held disk at) → slice_get paths disk ≡ Some path → from ≡ path.start + sector → AreRead (held path.at.number path.file) from result bytes ↔ AreRead sectors sector result bytes
+read_there sectors held paths path disk sector from (Ok done) bytes same is at =
+    let each : (i : ℕ) → sectors (sector + i) ≡ held path.at.number path.file (from + i) = λ i. same (sector + i) ∙ here held paths path disk (sector + i) (from + i) is (omega (arith, at)) in
     (λ read i below. each i ∙ read i below, λ read i below. sym (each i) ∙ read i below)
-read_there held paths path disk sector from (Err fault) bytes is at =
-    let first = here held paths path disk sector from is at in
+read_there sectors held paths path disk sector from (Err fault) bytes same is at =
+    let first = same sector ∙ here held paths path disk sector from is at in
     (λ unread len. first ∙ unread len, λ unread len. sym first ∙ unread len)

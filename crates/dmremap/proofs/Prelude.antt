@@ -10,7 +10,7 @@ pub use Rattle.dm_table.specs.declared.io.sectors.ReadFault.{ReadFault}
 pub use Rattle.dm_table.specs.declared.load.load_fault.LoadKind.{LoadKind}
 pub use Rattle.dm_table.specs.declared.tables.disk.Disk.{Disk}
 unfoldable pub use Rattle.dmremap.specs.Base.{bytes_of, read_paths}
-pub use Rattle.dmremap.specs.Prelude.{AllSaid, Answer, Answers, AreAnswered, AreImagesAsked, AreImagesOpened, AreMaximal, ArePartsOpened, ArePartsRead, ArePlayedIf, ArePlayedOver, AreRead, AreSeen, AreSettled, Asked, AskedBy, Begins, Builds, Contents, Describes, DescribesDevices, DescribesGroupAs, DeviceSpec, DiskContents, DiskPath, Disks, DisksOpen, Does, Done, EarlierRead, End, Ended, Ending, EndsAs, Entry, Exit, Exits, Failed, FailedAfter, Format, Gives, GivesFault, HasApp, HasDone, HasMetBy, HasPlayed, HasStopped, HasTop, HeadRefusal, HeadsOpen, ImagesOpen, IsAnswer, IsBegunAt, IsClash, IsClosedAs, IsCutReplay, IsOfKind, IsOfNone, IsOfTop, IsOne, IsOneSettled, IsOpened, IsOut, IsOutOfMemory, IsPlain, IsPlayed, IsReadOnIf, IsRefusedFor, IsReport, IsSettled, IsSpaced, IsStoppedBy, IsTaken, IsUnanswered, IsUnasked, IsUnowned, IsUntaken, IsWhole, IsWritten, JobAnswers, JobMakes, JobWords, ListOpens, Load, LoadFault, Loaded, Lvm, Maps, MapsOver, Memory, MessagesTold, MetadataGives, MetadataPartGives, Moved, NameFault, NameParts, Opened, Opening, OpeningMakes, OpensBy, OutOfMemory, OutputWritten, OwnedAnswers, Owners, Parsers, PartsGive, PartsOpen, Paths, Place, Prints, PrintsImages, RangeWords, Reading, Refusal, Refused, RefusedBy, Refuses, ReplaysOver, ReplaysStack, ReportSays, RequestsRead, Said, SaidBy, SaidOpens, SoundAs, Source, SplitSays, StackGives, Start, Stops, StopsAt, StreamsLeft, TableForm, Tables, TakeFormats, Tells, TextPartsGive, TextsGive, Told, WriteFault, Writes, answer_after, answer_from, answer_over, answer_said, asked_answers, asked_of, built, by_text, check_words, command_line, delivered_if, delivery_if, described, device_bytes, device_checks, disk_contents, disk_message, earlier_from, end_of, ended_by, ending_status, exit_after, exit_message, exit_status, explain_words, extent_answer, failed_writes, fault_from, few, fits, flat, fresh_start, has_lone_hyphen, has_requests, heads_of, heads_text, images_in, images_of, images_text, is_flushed, is_invalid, is_loading, is_memory, is_refused, is_unknown, job_in, job_words, last_of, len_of, line, list_any, list_in, listed_disks, load_status, lone_hyphen_in, name_said, name_status, name_words, number_of, on_disk, outcome_from, owners_of, places_in, print_words, range_answer, range_at, range_job, range_words, read_job, read_words, reading_answer, refusal_message, refusal_status, refused_by, replay_words, runs_text, said_by, sectors_parser, spaced, split_words, start_at, start_over, start_state, stop_exit, stored_start, stored_state, table_of, text_answer, texts_of, unless_short, unread, world_after, written_exit}
+pub use Rattle.dmremap.specs.Prelude.{AllSaid, Answer, Answers, AreAnswered, AreImagesAsked, AreImagesOpened, AreMaximal, ArePartsOpened, ArePartsRead, ArePlayedIf, ArePlayedOver, AreRead, AreSeen, AreSettled, Asked, AskedBy, Begins, Builds, Contents, Describes, DescribesDevices, DescribesGroupAs, DeviceSpec, DiskContents, DiskPath, Disks, DisksOpen, Does, Done, EarlierRead, End, Ended, Ending, EndsAs, Entry, Exit, Exits, Failed, FailedAfter, Format, Gives, GivesFault, HasApp, HasDone, HasMetBy, HasPlayed, HasStopped, HasTop, HeadRefusal, HeadsOpen, ImagesOpen, IsAnswer, IsBegunAt, IsClash, IsClosedAs, IsCutReplay, IsOfKind, IsOfNone, IsOfTop, IsOne, IsOneSettled, IsOpened, IsOut, IsOutOfMemory, IsPlain, IsPlayed, IsReadOnIf, IsRefusedFor, IsReport, IsSettled, IsSpaced, IsStoppedBy, IsTaken, IsUnanswered, IsUnasked, IsUnowned, IsUntaken, IsWhole, IsWritten, JobAnswers, JobMakes, JobWords, ListOpens, Load, LoadFault, Loaded, Lvm, Maps, MapsOver, Memory, MessagesTold, MetadataGives, MetadataPartGives, Moved, NameFault, NameParts, Opened, Opening, OpeningMakes, OpensBy, OutOfMemory, OutputWritten, OwnedAnswers, Owners, Parsers, PartsGive, PartsOpen, Paths, Place, Prints, PrintsImages, RangeWords, Reading, Refusal, Refused, RefusedBy, Refuses, ReplaysOver, ReplaysStack, ReportSays, RequestsRead, Said, SaidBy, SaidOpens, SoundAs, Source, SplitSays, StackGives, Start, Stops, StopsAt, StreamsLeft, TableForm, Tables, TakeFormats, Tells, TextPartsGive, TextsGive, Told, WriteFault, Writes, answer_after, answer_from, answer_over, answer_said, asked_answers, asked_of, built, by_text, check_words, command_line, delivered_if, delivery_if, described, device_bytes, device_checks, disk_contents, disk_message, earlier_from, end_of, ended_by, ending_status, exit_after, exit_message, exit_status, explain_words, extent_answer, failed_writes, fault_from, few, fits, flat, fresh_start, has_lone_hyphen, has_requests, heads_of, heads_text, images_in, images_of, images_text, is_flushed, is_invalid, is_loading, is_memory, is_refused, is_unknown, job_in, job_words, last_of, len_of, line, list_any, list_in, listed_disks, load_status, lone_hyphen_in, name_said, name_status, name_words, number_of, outcome_from, owners_of, places_in, print_words, range_answer, range_at, range_job, range_words, read_job, read_words, reading_answer, refusal_message, refusal_status, refused_by, replay_words, runs_text, said_by, sectors_parser, spaced, split_words, start_at, start_over, start_state, stop_exit, stored_start, stored_state, table_of, text_answer, texts_of, unless_short, unread, world_after, written_exit}
 unfoldable pub use Rattle.dmremap.specs.Prelude.{cut_at, explanation, first_entries, is_explained, later_entries, short_of}
 pub use Rattle.dmremap.specs.declared.status.TheConstants.{STATUS_BAD_REQUEST, STATUS_DONE, STATUS_MEMORY, STATUS_READ_FAULT, STATUS_REFUSED, STATUS_WRITE_FAULT}
 pub use Rattle.lvm_volume.specs.declared.owned_metadata.OwnedFault.{OwnedFault}

@@ -7,7 +7,7 @@ pub use Rattle.dmremap.specs.Done.{Does, HasDone}
 pub use Rattle.dmremap.specs.Exit.{IsOutOfMemory, IsPlain, ending_status, exit_after, exit_message, exit_status, failed_writes, is_flushed, is_refused, load_status, name_status, refusal_message, refusal_status}
 pub use Rattle.dmremap.specs.Explanation.{Entry, after, before, fits, part_in, part_meant, table_of, texts_of, word_in}
 unfoldable pub use Rattle.dmremap.specs.Explanation.{cut_at, explanation, first_entries, is_explained, later_entries}
-pub use Rattle.dmremap.specs.ImagesLoad.{AreImagesOpened, AreImagesRead, AreImagesUsed, AreSeen, DisksOpen, HeadsOpen, ImagesOpen, IsStoppedBy, IsUnowned, ListOpens, OpensBy, SaidOpens, StackGives, by_text, disk_message, ended_by, few, len_of, list_in, listed_disks, on_disk, owners_of, unless_short}
+pub use Rattle.dmremap.specs.ImagesLoad.{AreImagesOpened, AreImagesRead, AreImagesUsed, AreSeen, DisksOpen, HeadsOpen, ImagesOpen, IsStoppedBy, IsUnowned, ListOpens, OpensBy, SaidOpens, StackGives, by_text, disk_message, ended_by, few, len_of, list_in, listed_disks, owners_of, unless_short}
 unfoldable pub use Rattle.dmremap.specs.ImagesLoad.{short_of}
 pub use Rattle.dmremap.specs.ImagesText.{PrintsImages, heads_text, images_text, text_answer}
 pub use Rattle.dmremap.specs.Inputs.{IsReadOnIf, IsUnasked, delivered_if, delivery_if}

@@ -1,6 +1,6 @@
 -- The words that contracts cite, here and in crates above, from one place.
 pub use Rattle.lvm_head.specs.Areas.{is_header, is_near, is_none, is_within, location_in, ring_place}
-pub use Rattle.lvm_head.specs.Base.{AreRead, Area, Array, Differ, Err, HeadFault, Header, IfErr, IfOk, Label, Long, Memory, Ok, OnOk, Partitions, ReadFault, Text, Unread, [], bytes_eq, eight_at, false, four_at, length, list_any, map, nat_le, nat_lt, not, sector_in, slice_index, slice_range, slice_split, true, ℕ}
+pub use Rattle.lvm_head.specs.Base.{AreRead, Area, Array, Differ, Err, HeadFault, Header, IfErr, IfOk, Label, Long, Memory, Ok, OnOk, Partitions, ReadFault, Text, Unread, [], bytes_eq, eight_at, false, length, list_any, map, nat_le, nat_lt, not, sector_in, slice_index, slice_range, slice_split, true, ℕ}
 pub use Rattle.lvm_head.specs.Disks.{Contents, Sectors, answer, needed, ◌>>=◌}
 pub use Rattle.lvm_head.specs.FirstFound.{earlier}
 unfoldable pub use Rattle.lvm_head.specs.FirstFound.{first_found}
