@@ -1,7 +1,7 @@
 -- What a log of reads says of images.
-use Rattle.dm_store.specs.Base.{ℕ, List, [], drop, take}
+use Rattle.dm_store.specs.Base.{ℕ, List, [], drop, take, AreRead}
 use Rattle.dm_store.specs.declared.asked.Asked.{Asked}
-use Rattle.dm_store.specs.Images.{AreRead, Contents}
+use Rattle.dm_store.specs.Images.{Contents}
 use Rattle.std.specs.Prelude.{◌+◌, ◌∷◌}
 
 -- reads, with the bytes of their paths in a row, and those that they gave
