@@ -51,8 +51,8 @@ pub use Rattle.dm_table.specs.tables.Extent.{Extent, whole_file}
 pub use Rattle.dm_table.specs.tables.LineBody.{Amount, Argument, Body, Flag, IsArgument, IsBody, IsDevRef, IsTarget, Lower, argument_text, arguments_in, body_in, body_text, column_arguments, column_text, columns_in, dev_in, dev_text, has_body_names, has_target_names, if_both, is_body, is_body_row, is_count, is_dev_ref, kind_in, kind_text, linear_in, lower_in, nothing_in, row, striped_in, target_fields, target_in, target_row, target_text, then_in}
 pub use Rattle.dm_table.specs.tables.LineHead.{body_head, columns_of, target_head}
 pub use Rattle.dm_table.specs.tables.LineReading.{body_reading, columns_reading, dev_reading, fault_before, has_column_names, line_at, line_in, line_of, made_of, reading_of, target_reading, with_line, with_target}
-pub use Rattle.dm_table.specs.tables.PathList.{DescribesPaths, IsPathOf, after_mark, bytes_in, cut_at, extent_by, extent_of, has_place, is_of_part, is_path_text, name_and_path, path_at, path_checks, path_in, path_reading, place_in, sectors_in}
-unfoldable pub use Rattle.dm_table.specs.tables.PathList.{read_paths}
+pub use Rattle.dm_table.specs.tables.PathList.{DescribesPaths, IsPathOf, after_mark, bytes_in, cut_at, extent_by, extent_of, has_place, is_of_part, is_path_text, name_and_path, path_at, path_checks, path_in, path_reading, sectors_in}
+unfoldable pub use Rattle.dm_table.specs.tables.PathList.{place_in, read_paths}
 pub use Rattle.dm_table.specs.tables.Span.{Span, column_span, spans, target_spans, whole_span}
 pub use Rattle.dm_table.specs.tables.TableReading.{add_line, add_said, alone, has_line_names, join_line, joined, named_in, named_reading, row_reading, rows_of, table_row_fault}
 pub use Rattle.dm_table.specs.tables.TableText.{DescribesTable, DifferInName, HasPlaceOf, IsDescribed, IsSaid, NamedLine, SaysLine, Writes, is_row, line_text, name_in, named_lines, table_checks}

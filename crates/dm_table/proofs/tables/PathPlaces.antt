@@ -1,8 +1,8 @@
 -- How a line of paths is cut, and what its path says.
-use Rattle.dm_table.proofs.Prelude.{ℕ, inl, inr, false, eqb, List, [], length, take, drop, get_or, Some, None, Result, Ok, Err, refl, sym, ap, ◌∙◌, arith, MatchResult, is_ok, join_with_byte, onto_first, IsUtf8, is_utf8, nat_tests, cases_Bool, eq-eqb, ne_eqb, false_from_ne_true, elements, common_steps, drop-drop, drop_all, drop_more, take-append-drop, take_rest, slice_split-cons_yes, slice_split-cons_no, IsUtf8-from_is_utf8, is_utf8-from_IsUtf8, drop-append_seam, after_mark, cut_at, name_and_path, fields, last_or, parts_at}
+use Rattle.dm_table.proofs.Prelude.{ℕ, inl, inr, eqb, List, [], length, take, drop, get_or, Some, None, Result, Ok, Err, refl, sym, ap, ◌∙◌, arith, MatchResult, is_ok, join_with_byte, onto_first, IsUtf8, is_utf8, nat_tests, cases_Bool, eq-eqb, false_from_ne_true, elements, common_steps, drop-drop, drop_all, drop_more, take-append-drop, take_rest, slice_split-cons_yes, slice_split-cons_no, IsUtf8-from_is_utf8, is_utf8-from_IsUtf8, drop-append_seam, after_mark, cut_at, name_and_path, fields, last_or, parts_at}
 use Rattle.memchr.specs.Find.{is_byte, IsFirstByte, IsLastByte}
 use Rattle.dm_table.proofs.words.FieldLemmas.{IsClearOf, join-parts_at, last_or-push, parts_at-clear, parts_at-first, parts_at-found, parts_at-nowhere}
-use Rattle.std.specs.Prelude.{◌≡◌, ◌+◌, ◌-◌, ◌/◌, ◌%◌, ◌<◌, ◌≤◌, ◌&&◌, ◌∷◌, ◌++◌}
+use Rattle.std.specs.Prelude.{◌≡◌, ◌+◌, ◌-◌, ◌<◌, ◌∷◌, ◌++◌}
 
 -- ---- UTF-8
 

@@ -1,5 +1,5 @@
 -- Lists of paths: a line DISK PATH for each disk that has an image.
-use Rattle.dm_table.specs.Base.{ℕ, Bool, true, List, [], length, take, drop, get_or, nat_eq, nat_le, nat_lt, is_some, map, codes, Option, None, Some, Result, Err, is_ascii_digit, starts_with, list_all, is_utf8, digits_value, Paths, LoadFault, RowFault, Syntax}
+use Rattle.dm_table.specs.Base.{ℕ, Bool, true, List, [], length, take, drop, get_or, nat_eq, nat_le, nat_lt, is_some, map, codes, Option, None, Some, Result, Err, option_map, is_ascii_digit, starts_with, list_all, is_utf8, digits_value, Paths, LoadFault, RowFault, Syntax}
 use Rattle.dm_table.specs.declared.tables.disk_path.DiskPath.{DiskPath}
 use Rattle.dm_table.specs.load.LoadFault.{first_fault, unless}
 use Rattle.dm_table.specs.load.Reading.{LinesSay, line_checks, values_from}
@@ -57,7 +57,7 @@ abbrev pub extent_of : (file : List ℕ) → Option Extent → Option (List ℕ 
 extent_of file extent = if is_utf8 file then option_map (λ it. (file, it)) extent else None
 
 -- FILE?offset=BYTES&length=BYTES says a part of a file, and any other path that is not about a part says a whole one
-abbrev pub place_in : List ℕ → Option (List ℕ × Extent)
+unfoldable pub place_in : List ℕ → Option (List ℕ × Extent)
 place_in path =
     let keys = after_mark path in
     if nat_lt (length keys) (length path) && is_of_part keys then extent_of (take (length path - length keys - 1) path) (extent_by (cut_at (code "&") keys)) else extent_of path (Some whole_file)

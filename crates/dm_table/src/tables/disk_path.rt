@@ -33,6 +33,8 @@ impl Model for FileExtent {
     ghost view = { λ extent. record { start = extent.start; len = extent.len } };
 
     ghost invariant = { λ extent. extent.start < 2 ^ 51 };
+
+    ghost inverse = { λ extent. record { start = extent.start; len = extent.len } };
 }
 
 impl FileExtent {
