@@ -11,7 +11,7 @@ pub use Rattle.dm_store.specs.declared.fault.StoreFault.{StoreFault}
 pub use Rattle.dm_store.specs.declared.fault.StoreFault.TheVariants.{Chunk, Gap, Listed, Magic, Unread, Version}
 pub use Rattle.dm_store.specs.declared.pair.Pair.{Pair}
 pub use Rattle.dm_store.specs.declared.store.Store.{Store}
-pub use Rattle.dm_table.specs.Prelude.{first_fault, unless}
+pub use Rattle.dm_table.specs.Prelude.{Extent, first_fault, unless}
 pub use Rattle.dm_table.specs.Std.{AllByRecursion, Bool, Err, List, None, Ok, Option, Result, Some, [], codes, drop, false, find, is_some, length, map, nat_eq, nat_le, nat_lt, not, option_map, slice_index, slice_index_or, slice_range, string_bytes, suc, take, true, zero, ℕ}
 unfoldable pub use Rattle.dm_table.specs.Std.{IsDistinct}
 pub use Rattle.dm_table.specs.declared.tables.table.StoreKind.TheVariants.{Persistent, Transient}

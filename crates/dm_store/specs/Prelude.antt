@@ -4,7 +4,7 @@ pub use Rattle.dm_stack.specs.Prelude.{IsSnapshot, name_at}
 pub use Rattle.dm_store.specs.Base.{Description, Err, List, None, Ok, Some, [], find, home, is_same, is_some, length, map, none_taken, number_in, option_map, put, slice_range, string_bytes, taken_at, true, ℕ}
 pub use Rattle.dm_store.specs.Fitting.{AlwaysFit, AlwaysHaveRows, AlwaysStart, Fit, IsLostInStore, IsStart}
 pub use Rattle.dm_store.specs.ImageList.{image_in, images_of}
-pub use Rattle.dm_store.specs.Images.{AreRead, Contents, DiskContents, disk_contents, place_of, sector_in}
+pub use Rattle.dm_store.specs.Images.{AreRead, Contents, DiskContents, disk_contents, in_extent, place_of, sector_in}
 pub use Rattle.dm_store.specs.Layout.{area_count, pair_count, rest_count, row_sector}
 pub use Rattle.dm_store.specs.Message.{fault_word, store_message}
 pub use Rattle.dm_store.specs.Numbers.{eight_at, four_at}
