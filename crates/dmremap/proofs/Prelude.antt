@@ -6,7 +6,7 @@ pub use Rattle.dm_replay.proofs.NamedLemmas.{named_id, named_top, none_named, to
 pub use Rattle.dm_replay.specs.Prelude.{AreMaximal, Asked, HasTop, IsUnanswered, asked_answers, flat, runs_text, world_after}
 pub use Rattle.dm_stack.proofs.OneFault.{never_both}
 pub use Rattle.dm_stack.specs.Prelude.{Description, IsClash, IsReport, IsSound, IsTidy, IsTop, claims, described, device_len, is_same}
-pub use Rattle.dm_store.specs.Prelude.{Contents, DiskContents, Place, disk_contents, images_of, stored_state}
+pub use Rattle.dm_store.specs.Prelude.{Contents, DiskContents, Place, disk_contents, images_of, in_extent, stored_state}
 pub use Rattle.dm_stream.specs.Prelude.{HasMet, HasRun, HasTold, IsAmong, NumberedRequest, Outcome, Requests, device_of, ending_message, numbered, refused_ending, requests_of, run_outcome}
 pub use Rattle.dm_stream.specs.declared.runs.earlier.EarlierFault.{EarlierFault}
 pub use Rattle.dm_stream.specs.declared.runs.ending.Ending.{Ending}

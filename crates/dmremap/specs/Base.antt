@@ -4,7 +4,7 @@ pub use Rattle.dm_read.specs.Prelude.{Reading, device_bytes, stop_message}
 unfoldable pub use Rattle.dm_read.specs.Prelude.{bytes_of}
 pub use Rattle.dm_replay.specs.Prelude.{AreMaximal, Asked, HasTop, asked_answers, flat, runs_text, world_after}
 pub use Rattle.dm_stack.specs.Prelude.{Description, IsClash, IsRefusedBy, IsReport, IsSound, IsTidy, claims, described, device_id, device_len, disk_len, is_same, name_at}
-pub use Rattle.dm_store.specs.Prelude.{Contents, DiskContents, Place, disk_contents, images_of, store_message, stored_state}
+pub use Rattle.dm_store.specs.Prelude.{Contents, DiskContents, Place, disk_contents, images_of, in_extent, store_message, stored_state}
 pub use Rattle.dm_stream.specs.Prelude.{CanMap, HasMet, HasTold, IsTold, NumberedRequest, Outcome, Requests, earlier_message, ending_message, refused_ending, refused_request, requests_of, requests_outcome, run_outcome, write_faults, write_message, ◌∙◌}
 pub use Rattle.dm_stream.specs.declared.runs.ending.Ending.{Ending}
 pub use Rattle.dm_stream.specs.declared.runs.ending.Ending.TheVariants.{Done, WriteFault}

@@ -1,5 +1,5 @@
 -- What the images of a list of paths open: a load of the text that their heads have, or a message where a head is refused.
-use Rattle.dmremap.specs.Base.{ℕ, List, [], Option, Some, None, Result, Ok, Err, length, map, nat_lt, position, slice_get, option_map_or, is_ok, LoadFault, Limit, Memory, Paths, DiskPath, Delivery, InputPast, delivery, IsReadOn, fault_at, PartRead, TextOf, Refuses, Unread, part_read, read_paths, Description, described, disk_len, is_same, IsSound, IsRefusedBy, Contents, HeadRefusal, Sectors, AllSaid, heads_of, head_message, Owners, Gives, Refusal}
+use Rattle.dmremap.specs.Base.{ℕ, List, [], Option, Some, None, Result, Ok, Err, length, map, nat_lt, position, slice_get, option_map_or, is_ok, LoadFault, Limit, Memory, Paths, DiskPath, Delivery, InputPast, delivery, IsReadOn, fault_at, PartRead, TextOf, Refuses, Unread, part_read, read_paths, Description, described, disk_len, is_same, IsSound, IsRefusedBy, Contents, in_extent, HeadRefusal, Sectors, AllSaid, heads_of, head_message, Owners, Gives, Refusal}
 use Rattle.dm_store.specs.declared.images.ReadFault.{ReadFault}
 use Rattle.lvm_head.specs.declared.disks.ReadFault.{ReadFault as HeadReadFault}
 use Rattle.lvm_head.specs.declared.fault.HeadFault.{HeadFault}
@@ -25,7 +25,7 @@ on_disk (Err fault) = Err (record {})
 
 -- a disk that lies where a path has it; there is none without a path
 abbrev pub at_path : Contents → Option DiskPath → Sectors
-at_path held (Some path) sector = on_disk (held path.at.number path.file (path.start + sector))
+at_path held (Some path) sector = on_disk (in_extent path.extent (held path.at.number path.file) sector)
 at_path held None sector = Err (record {})
 
 abbrev pub listed_disks : List DiskPath → Contents → DiskContents

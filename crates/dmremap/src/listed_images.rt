@@ -3,7 +3,7 @@
 ghost use Rattle.dmremap.specs.Prelude.{AreSeen};
 ghost use Rattle.std.specs.Prelude.{◌≡◌};
 
-use dm_store::Images;
+use dm_store::{Images, read_extent};
 use dm_table::DiskPath;
 use lvm_head::{Disks, ReadFault};
 use std::alloc::Global;
@@ -36,11 +36,8 @@ impl<I: Images> Disks for ListedImages<I> {
         let Some(path) = self.paths.get(disk) else {
             return Err(ReadFault);
         };
-        let start = path.start.number() + sector;
-        match self
-            .images
-            .read(path.at.number, path.file.as_str(), start, into)
-        {
+        let (line, file) = (path.at.number, path.file.as_str());
+        match read_extent(&mut self.images, line, file, path.extent, sector, into) {
             Ok(()) => Ok(()),
             Err(_) => Err(ReadFault),
         }
