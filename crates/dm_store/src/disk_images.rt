@@ -63,7 +63,14 @@ impl DiskImages {
         let Some(place) = self.place(disk) else {
             return Err(SectorFault::Missing);
         };
-        match read_extent(images, place.line(), place.path(), place.extent(), sector, into) {
+        match read_extent(
+            images,
+            place.line(),
+            place.path(),
+            place.extent(),
+            sector,
+            into,
+        ) {
             Ok(()) => Ok(()),
             Err(ReadFault) => Err(SectorFault::Read),
         }

@@ -1,9 +1,9 @@
 -- Sectors of a disk of a list, as a read of its image has them.
-use Rattle.dmremap.proofs.Prelude.{◌∙◌, ℕ, List, Some, Result, Ok, Err, length, slice_get, refl, sym, ap, DiskPath, Contents, in_extent, AreRead, listed_disks, on_disk}
+use Rattle.dmremap.proofs.Prelude.{◌∙◌, ℕ, List, Some, Result, Ok, Err, slice_get, refl, sym, ap, DiskPath, Contents, in_extent, AreRead, listed_disks, on_disk}
 use Rattle.dm_store.specs.declared.images.ReadFault.{ReadFault}
 use Rattle.dm_store.specs.Images.{AreRead as AreImagesRead}
 use Rattle.lvm_head.specs.declared.disks.ReadFault.{ReadFault as HeadReadFault}
-use Rattle.std.specs.Prelude.{◌≡◌, ◌+◌, ◌*◌, ◌<◌}
+use Rattle.std.specs.Prelude.{◌≡◌, ◌+◌}
 
 here : (held : Contents) (paths : List DiskPath) (path : DiskPath) (disk sector : ℕ) → slice_get paths disk ≡ Some path → listed_disks paths held disk sector ≡ on_disk (in_extent path.extent (held path.at.number path.file) sector)
 here held paths path disk sector is = rw is refl

@@ -1,4 +1,4 @@
-use Rattle.dmremap.proofs.Prelude.{◌∙◌, ℕ, List, Some, refl, slice_get, sym, ap, slice_get_read, DiskPath}
+use Rattle.dmremap.proofs.Prelude.{◌∙◌, ℕ, List, Some, refl, slice_get, sym, slice_get_read, DiskPath}
 use Rattle.dmremap.proofs.ListedLemmas.{asked_there, failed_there, read_there, unread_there}
 use Rattle.dmremap.proofs.listed_images.ListedImagesDisks.read.Goals as goal
 use Rattle.std.specs.Prelude.{◌≡◌, ◌+◌}
