@@ -16,3 +16,4 @@ unfoldable pub use Rattle.dm_table.specs.Std.{IsDistinct}
 pub use Rattle.dm_table.specs.declared.tables.table.StoreKind.TheVariants.{Persistent, Transient}
 pub use Rattle.dm_table.specs.io.LittleEndian.{eight_at, four_at}
 pub use Rattle.dm_table.specs.io.Sectors.{AreRead, sector_in}
+pub use Rattle.dm_table.specs.Prelude.{Extent}

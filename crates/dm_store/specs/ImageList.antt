@@ -6,7 +6,7 @@ use Rattle.dm_store.specs.Places.{Place}
 
 -- where a disk of this name lies, if a path is of it
 abbrev pub image_in : List DiskPath → (name : List ℕ) → Option Place
-image_in paths name = option_map (λ path. record { line = path.at.number; path = path.file; start = path.start }) (find (λ path. is_same path.disk name) paths)
+image_in paths name = option_map (λ path. record { line = path.at.number; path = path.file; extent = path.extent }) (find (λ path. is_same path.disk name) paths)
 
 -- where the disks of a stack lie, by their ids, or the fault of the paths
 abbrev pub images_of : Description → List DiskPath → Result (List (Option Place)) LoadFault

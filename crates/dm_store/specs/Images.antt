@@ -1,13 +1,17 @@
 -- What images hold, and what disks do that lie in them.
-use Rattle.dm_store.specs.Base.{ℕ, List, Option, Some, None, Result, Ok, Err, slice_index_or, SectorFault, Missing, Read}
+use Rattle.dm_store.specs.Base.{ℕ, List, Option, Some, None, Result, Ok, Err, nat_lt, slice_index_or, SectorFault, Missing, Read, Extent}
 use Rattle.dm_table.specs.declared.io.sectors.ReadFault.{ReadFault}
 use Rattle.dm_store.specs.Places.{Place}
 use Rattle.dm_store.specs.Pairs.{Sectors}
-use Rattle.std.specs.Prelude.{◌+◌}
+use Rattle.std.specs.Prelude.{◌+◌, if◌then◌else◌}
 
 -- what each sector of each image holds, or that it can't be read; an image is named by its line in a list, and by its path
 abbrev pub Contents : Type 0
 Contents = (line : ℕ) → (path : List ℕ) → (sector : ℕ) → Result (List ℕ) ReadFault
+
+-- the sectors of an extent of an image: past its end none can be read
+abbrev pub in_extent : Extent → (image : ℕ → Result (List ℕ) ReadFault) → (sector : ℕ) → Result (List ℕ) ReadFault
+in_extent extent image sector = if nat_lt sector extent.len then image (extent.start + sector) else Err (record {})
 
 -- what each sector of each disk holds, or why it can't be read
 abbrev pub DiskContents : Type 0
@@ -20,7 +24,7 @@ on_disk (Err fault) = Err Read
 
 -- a disk that lies in an image, or in none
 abbrev pub in_image : Contents → Option Place → Sectors
-in_image held (Some place) sector = on_disk (held place.line place.path (place.start + sector))
+in_image held (Some place) sector = on_disk (in_extent place.extent (held place.line place.path) sector)
 in_image held None sector = Err Missing
 
 -- where a disk lies, by its id

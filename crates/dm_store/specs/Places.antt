@@ -1,8 +1,8 @@
 -- Where disks lie.
-use Rattle.dm_store.specs.Base.{ℕ, List}
+use Rattle.dm_store.specs.Base.{ℕ, List, Extent}
 
--- an image, and the sector of it from which on it has a disk
+-- an image, and the sectors of it that a disk has
 pub record Place : Type 0 where
   pub line : ℕ
   pub path : List ℕ
-  pub start : ℕ
+  pub extent : Extent

@@ -2,7 +2,7 @@
 pub use Rattle.dm_store.specs.Base.{AreRead, Chunk, Description, Err, Gap, GoOn, IfErr, IfNone, IfOk, IfSome, IsMemoryFault, IsSnapshot, IsWithinPlaces, List, ListFault, Listed, Magic, Missing, None, Ok, OnErr, OnOk, Order, Pair, Persistent, Range, ResolvedSnapshot, SectorFault, Some, Store, StoreFault, Transient, Unread, Version, [], find, four_at, home, is_same, is_some, length, map, name_at, none_taken, number_in, option_map, put, sector_in, slice_range, start_state, string_bytes, taken_at, true, with_chunk, with_looked, ℕ}
 pub use Rattle.dm_store.specs.Fitting.{AlwaysFit, AlwaysHaveRows, AlwaysStart, Fit, IsLostInStore, IsStart}
 pub use Rattle.dm_store.specs.ImageList.{image_in, images_of}
-pub use Rattle.dm_store.specs.Images.{Contents, DiskContents, disk_contents, place_of}
+pub use Rattle.dm_store.specs.Images.{Contents, DiskContents, disk_contents, place_of, in_extent}
 pub use Rattle.dm_store.specs.Layout.{area_count, pair_count, rest_count, row_sector}
 pub use Rattle.dm_store.specs.Message.{fault_word, store_message}
 pub use Rattle.dm_store.specs.Pairs.{Sectors, bytes_or_none, pair, pair_in}

@@ -27,7 +27,7 @@ mod stores;
 pub use disk_images::DiskImages;
 pub use fault::{ListFault, SectorFault, StoreFault, StoreRefusal};
 pub use image_list::listed_images;
-pub use images::{Images, MOST_BYTES, ReadFault, SECTOR};
+pub use images::{Images, MOST_BYTES, ReadFault, SECTOR, read_extent};
 pub use laws::{is_spelled, reads_back, restarts, restarts_go_on, stored_states_fit, stores_fit};
 pub use memory_images::MemoryImages;
 pub use message::StoreMessage;

@@ -37,11 +37,12 @@ pub use Rattle.dm_table.specs.tables.ConciseReading.{bodies_reading, device_in, 
 unfoldable pub use Rattle.dm_table.specs.tables.ConciseReading.{read_concise}
 pub use Rattle.dm_table.specs.tables.ConciseText.{DescribesConcise, SaysDevice, SaysLines, WritesBody, body_fields, concise_checks, devices_of, entries, has_label_names, has_label_values, has_names, has_values, is_device, is_flags, is_label, is_minor, is_ro, is_uuid, lacks, parts_of, place_of, without_first_space, without_newline}
 pub use Rattle.dm_table.specs.tables.DiskList.{DescribesDisks, IsDiskOf, disk_at, disk_checks, disk_in, disk_line, disk_reading, has_name, has_sectors, is_pair, pair_in}
+pub use Rattle.dm_table.specs.tables.Extent.{Extent, whole_file}
 pub use Rattle.dm_table.specs.tables.LineBody.{Amount, Argument, Body, Flag, IsArgument, IsBody, IsDevRef, IsTarget, Lower, argument_text, arguments_in, body_in, body_text, column_arguments, column_text, columns_in, dev_in, dev_text, has_body_names, has_target_names, if_both, is_body, is_body_row, is_count, is_dev_ref, kind_in, kind_text, linear_in, lower_in, nothing_in, row, striped_in, target_fields, target_in, target_row, target_text, then_in}
 pub use Rattle.dm_table.specs.tables.LineHead.{body_head, columns_of, target_head}
 pub use Rattle.dm_table.specs.tables.LineReading.{body_reading, columns_reading, dev_reading, fault_before, has_column_names, line_at, line_in, line_of, made_of, reading_of, target_reading, with_line, with_target}
-pub use Rattle.dm_table.specs.tables.PathList.{DescribesPaths, IsPathOf, after_equals, has_place, is_path_text, name_and_path, offset_in, path_at, path_checks, path_in, path_reading, place_in}
-unfoldable pub use Rattle.dm_table.specs.tables.PathList.{read_paths}
+pub use Rattle.dm_table.specs.tables.PathList.{DescribesPaths, IsPathOf, after_mark, bytes_in, cut_at, extent_by, extent_of, has_place, is_of_part, is_path_text, name_and_path, path_at, path_checks, path_in, path_reading, sectors_in}
+unfoldable pub use Rattle.dm_table.specs.tables.PathList.{place_in, read_paths}
 pub use Rattle.dm_table.specs.tables.Span.{Span, column_span, spans, target_spans, whole_span}
 pub use Rattle.dm_table.specs.tables.TableReading.{add_line, add_said, alone, has_line_names, join_line, joined, named_in, named_reading, row_reading, rows_of, table_row_fault}
 pub use Rattle.dm_table.specs.tables.TableText.{DescribesTable, DifferInName, HasPlaceOf, IsDescribed, IsSaid, NamedLine, SaysLine, Writes, is_row, line_text, name_in, named_lines, table_checks}

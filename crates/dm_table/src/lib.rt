@@ -34,7 +34,7 @@ pub use tables::canonical_text::{write_concise, write_table};
 pub use tables::concise_text::parse_concise;
 pub use tables::disk::Disk;
 pub use tables::disk_list::parse_disks;
-pub use tables::disk_path::DiskPath;
+pub use tables::disk_path::{DiskPath, FileExtent};
 pub use tables::listed::Listed;
 pub use tables::path_list::parse_paths;
 pub use tables::table::{Column, Columns, DevRef, DeviceSpec, Line, StoreKind, Table, Target, Use};

@@ -15,3 +15,4 @@ unfoldable pub use Rattle.dmremap.specs.Prelude.{cut_at, explanation, first_entr
 pub use Rattle.dmremap.specs.declared.status.TheConstants.{STATUS_BAD_REQUEST, STATUS_DONE, STATUS_MEMORY, STATUS_READ_FAULT, STATUS_REFUSED, STATUS_WRITE_FAULT}
 pub use Rattle.lvm_volume.specs.declared.owned_metadata.OwnedFault.{OwnedFault}
 pub use Rattle.std.proofs.Math.Seq.{drop-cons}
+pub use Rattle.dm_store.specs.Prelude.{in_extent}

@@ -4,7 +4,7 @@ pub use Rattle.dm_read.specs.Prelude.{IsWritten, Reading, device_bytes, stop_mes
 unfoldable pub use Rattle.dm_read.specs.Prelude.{bytes_of}
 pub use Rattle.dm_replay.specs.Prelude.{AreMaximal, Asked, HasTop, IsUnanswered, asked_answers, flat, replay_from, runs_text, world_after}
 pub use Rattle.dm_stack.specs.Prelude.{Description, IsClash, IsRefusedBy, IsReport, IsSound, IsTidy, claims, described, device_id, device_len, disk_len, filter, is_same, name_at, option_map_or, position, slice_get}
-pub use Rattle.dm_store.specs.Prelude.{AgreesWith, Contents, DiskContents, Place, disk_contents, images_of, start_state, store_message, stored_state}
+pub use Rattle.dm_store.specs.Prelude.{AgreesWith, Contents, DiskContents, Place, disk_contents, images_of, start_state, store_message, stored_state, in_extent}
 pub use Rattle.dm_stream.specs.Prelude.{AreFewest, Bor, CanMap, HasMet, HasTold, IsTold, NumberedRequest, Outcome, Requests, State, before_first, earlier_message, ending_message, fewest, is_ok, refused_ending, refused_request, requests_of, requests_outcome, run_outcome, write_faults, write_message}
 pub use Rattle.dm_stream.specs.declared.runs.ending.Ending.{Ending}
 pub use Rattle.dm_stream.specs.declared.runs.ending.Ending.TheVariants.{BadRequest, Done, ReadFault, WriteFault}

@@ -1,5 +1,5 @@
 -- What the images of a list of paths open: a load of the text that their heads have, or a message where a head is refused.
-use Rattle.dmremap.specs.Base.{ℕ, List, [], Option, Some, None, Result, Ok, Err, length, map, nat_lt, position, slice_get, option_map_or, is_ok, LoadFault, Limit, Memory, Paths, DiskPath, Delivery, InputPast, delivery, IsReadOn, fault_at, PartRead, TextOf, Refuses, Unread, part_read, read_paths, Description, described, disk_len, is_same, IsSound, IsRefusedBy, Contents, HeadRefusal, Sectors, AllSaid, heads_of, head_message, Owners, Gives, Refusal}
+use Rattle.dmremap.specs.Base.{ℕ, List, [], Option, Some, None, Result, Ok, Err, length, map, nat_lt, position, slice_get, option_map_or, is_ok, LoadFault, Limit, Memory, Paths, DiskPath, Delivery, InputPast, delivery, IsReadOn, fault_at, PartRead, TextOf, Refuses, Unread, part_read, read_paths, Description, described, disk_len, is_same, IsSound, IsRefusedBy, Contents, in_extent, HeadRefusal, Sectors, AllSaid, heads_of, head_message, Owners, Gives, Refusal}
 use Rattle.lvm_head.specs.declared.fault.HeadFault.{HeadFault}
 use Rattle.lvm_head.specs.declared.fault.HeadFault.TheVariants as faults
 use Rattle.lvm_head.specs.Disks.{Contents as DiskContents}
@@ -18,7 +18,7 @@ use Rattle.std.specs.Prelude.{◌≡◌, ◌≢◌, ◌⊎◌, ◌+◌, ◌-◌,
 
 -- a disk that lies where a path has it; there is none without a path
 abbrev pub at_path : Contents → Option DiskPath → Sectors
-at_path held (Some path) sector = held path.at.number path.file (path.start + sector)
+at_path held (Some path) sector = in_extent path.extent (held path.at.number path.file) sector
 at_path held None sector = Err (record {})
 
 abbrev pub listed_disks : List DiskPath → Contents → DiskContents

@@ -3,7 +3,7 @@
 ghost use Rattle.dmremap.specs.Prelude.{AreSeen};
 ghost use Rattle.std.specs.Prelude.{◌≡◌};
 
-use dm_store::Images;
+use dm_store::{Images, read_extent};
 use dm_table::{DiskPath, ReadFault};
 use lvm_head::Disks;
 use std::alloc::Global;
@@ -36,8 +36,13 @@ impl<I: Images> Disks for ListedImages<I> {
         let Some(path) = self.paths.get(disk) else {
             return Err(ReadFault);
         };
-        let start = path.start.number() + sector;
-        self.images
-            .read(path.at.number, path.file.as_str(), start, into)
+        read_extent(
+            &mut self.images,
+            path.at.number,
+            path.file.as_str(),
+            path.extent,
+            sector,
+            into,
+        )
     }
 }

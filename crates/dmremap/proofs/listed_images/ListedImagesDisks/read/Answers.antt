@@ -1,7 +1,7 @@
-use Rattle.dmremap.proofs.Prelude.{ℕ, List, Some, refl, slice_get, ap, slice_get_read, DiskPath}
+use Rattle.dmremap.proofs.Prelude.{ℕ, List, Some, refl, slice_get, slice_get_read, DiskPath}
 use Rattle.dmremap.proofs.ListedLemmas.{read_there}
 use Rattle.dmremap.proofs.listed_images.ListedImagesDisks.read.Goals as goal
-use Rattle.std.specs.Prelude.{◌≡◌, ◌+◌}
+use Rattle.std.specs.Prelude.{◌≡◌}
 
 -- the path that a list of this value has at a place
 path_there : (xs paths : List DiskPath) (i : ℕ) (path : DiskPath) → xs ≡ paths → slice_get xs i ≡ Some path → slice_get paths i ≡ Some path
@@ -11,12 +11,12 @@ pub returns-in-Some-clause-is : goal.returns-in-Some-clause-is
 returns-in-Some-clause-is g c = λ held seen.
     let path = c.in-Some.path.now in
     let there = path_there c.deref.result.now c.args.self.now.paths.items c.args.disk path c.deref.ensures.value (slice_get_read c.deref.result.now _ c.args.disk path refl c.in-Some.ensures.lookup.3.0 c.in-Some.ensures.lookup.1) in
-    let same = read_there (held c.args.disk) seen.held c.args.self.now.paths.items path c.args.disk c.args.sector (c.number.result + c.args.sector) c.read.result c.read.new.into (seen.same c.args.disk) there (ap (λ (n : ℕ). n + c.args.sector) c.number.ensures.is) in
-    same.0 (rw c.as_str.ensures at (c.read.ensures.is seen.held seen.seen))
+    let same = read_there (held c.args.disk) seen.held c.args.self.now.paths.items path c.args.disk c.args.sector c.read_extent.result c.read_extent.new.into (seen.same c.args.disk) there in
+    same.0 (rw c.as_str.ensures at (c.read_extent.ensures.is seen.held seen.seen))
 
 pub returns-in-Some-clause-seen : goal.returns-in-Some-clause-seen
 returns-in-Some-clause-seen g c = λ held seen said.
     let path = c.in-Some.path.now in
     let there = path_there c.deref.result.now c.args.self.now.paths.items c.args.disk path c.deref.ensures.value (slice_get_read c.deref.result.now _ c.args.disk path refl c.in-Some.ensures.lookup.3.0 c.in-Some.ensures.lookup.1) in
-    let same = read_there (held c.args.disk) seen.held c.args.self.now.paths.items path c.args.disk c.args.sector (c.number.result + c.args.sector) c.read.result c.read.new.into (seen.same c.args.disk) there (ap (λ (n : ℕ). n + c.args.sector) c.number.ensures.is) in
-    record { held = seen.held; seen = c.read.ensures.seen seen.held seen.seen (rw c.as_str.ensures (same.1 said)); same = seen.same }
+    let same = read_there (held c.args.disk) seen.held c.args.self.now.paths.items path c.args.disk c.args.sector c.read_extent.result c.read_extent.new.into (seen.same c.args.disk) there in
+    record { held = seen.held; seen = c.read_extent.ensures.seen seen.held seen.seen (rw c.as_str.ensures (same.1 said)); same = seen.same }

@@ -1,6 +1,6 @@
 use Rattle.dm_table.proofs.Prelude.{sym, ◌∙◌, arith, length, take, digits_value_short, length-take-le}
 use Rattle.dm_table.proofs.words.NumberLemmas.{next_below, numerals, read_more}
-use Rattle.dm_table.proofs.tables.path_list.offset_in.Goals as goal
+use Rattle.dm_table.proofs.tables.path_list.bytes_in.Goals as goal
 use Rattle.std.specs.Prelude.{◌≤◌}
 
 pub overflow_mul-value : goal.overflow_mul-value
