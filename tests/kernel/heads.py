@@ -50,7 +50,7 @@ DEPARTING = {case: (departure, word) for departure, word, cases in (
     ("areas and texts that lvm2 doesn't write", "text", "area-without-newline"),
     ("a label without `LABELONE`", "label", "label-no-labelone"),
     ("a partition table within a partition", "partitions", "part-with-table"),
-    ("a volume in a partition that was made shorter", "", "part-shorter"),
+    ("a volume in a partition that was made shorter", "ends", "part-shorter"),
     ("a physical volume that was on an array", "array", "later-md-array-named later-md-member part-leg-as-disk"),
     ("a second label", "", "label-no-labelone-later label-of-another-sector label-two label-two-different "
                            "label-wrong-sum-later"),
@@ -133,5 +133,7 @@ def paths_of(program, vector):
     lines = []
     for disk in vector.records("disks.jsonl"):
         image, start = images[disk["image"]], disk["offset"]
-        lines.append("%s %s%s\n" % (disk["disk"], image, "?offset=%d" % start if start else ""))
+        # Without a length, a partition goes up to the end of its image.
+        length = disk["length"] or (os.path.getsize(image) - start) // SECTOR * SECTOR
+        lines.append("%s %s%s\n" % (disk["disk"], image, "?offset=%d&length=%d" % (start, length) if start else ""))
     return program.file(os.path.join("heads", vector.name, "paths"), "".join(lines))

@@ -1,12 +1,8 @@
 -- Names that contracts import, in dm_map and in the crates above it, gathered in one module.
-pub use Rattle.dm_map.specs.Base.{AllByRecursion, Description, Device, Disk, IfOk, IsLine, IsLineOf, IsSound, IsTidy, IsTop, List, None, OnOk, Read, Some, Write, [], allocated, binary_digits, device_len, false, is_none, is_ro_at, is_some, length, lower_len, metadata, min, nat_lt, not, place, replicate, stack_depth, true, ℕ}
+pub use Rattle.dm_map.specs.Base.{All, AllByRecursion, AreOnDisks, Bool, Description, Device, Disk, Empty, Fork, HomeStretch, IfNone, IfOk, IfSome, IsDistinct, IsDistinct-prop, IsLine, IsLineOf, IsSnapshot, IsSound, IsStore, IsTidy, IsTop, List, Lower, MatchBool, None, Number, OnOk, Op, Piece, Read, ResolvedLine, ResolvedOrigin, ResolvedOver, ResolvedSnapshot, ResolvedTarget, Some, Write, [], allocated, binary_digits, bit_at, device_len, false, flat_map, is_none, is_ro_at, is_some, is_striped, length, lower_len, metadata, min, nat_eq, nat_lt, not, place, refl, replicate, snapshots, stack_depth, true, vec_capacity, zero, ℕ}
 pub use Rattle.dm_map.specs.Mapper.{HasMapped, MapperView, OnSinkFault, with_looked}
-pub use Rattle.dm_map.specs.declared.pieces.piece.Piece.{Piece}
 pub use Rattle.dm_map.specs.declared.state.run_taken.run.Run.{Run}
-pub use Rattle.dm_map.specs.declared.state.trie_taken.link.Node.TheVariants.{Empty, Fork, Number}
-pub use Rattle.dm_map.specs.declared.state.usage.Usage.{Usage}
 pub use Rattle.dm_map.specs.declared.walk.chunk.ReadAt.{ReadAt}
-pub use Rattle.dm_map.specs.declared.walk.homes.HomeStretch.{HomeStretch}
 pub use Rattle.dm_map.specs.declared.walk.stretch.Ground.{Ground}
 pub use Rattle.dm_map.specs.declared.walk.stretch.Stretch.{Stretch}
 pub use Rattle.dm_map.specs.laws.Contents.{past-append, unit_cong}
@@ -56,5 +52,3 @@ unfoldable pub use Rattle.dm_map.specs.walk.Serving.{serve}
 pub use Rattle.dm_map.specs.walk.SnapshotWrites.{any_error, can_take, copies, copy_to, count_of, first_of, home_in_store, is_error, is_keeping, is_refused, is_settled, read, reads_all, row, store_writes, take_chunk, unit_in_store, write_numbered, write_snapshot, write_to}
 pub use Rattle.dm_map.specs.walk.Steps.{Step, and_then, keep, steps}
 pub use Rattle.dm_map.specs.walk.Stretch.{IsFirst, IsFirstOf, IsFirstRead, IsGroundInStack, IsGroundNear, ground_unit, unit_at}
-pub use Rattle.dm_stack.specs.Prelude.{AreOnDisks, IsSnapshot, IsStore, is_striped, snapshots}
-pub use Rattle.dm_table.specs.Std.{All, IfNone, IfSome}

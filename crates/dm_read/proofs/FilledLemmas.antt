@@ -3,12 +3,6 @@ use Rattle.dm_read.proofs.Prelude.{inl, inr, ℕ, List, Option, Some, None, Resu
 use Rattle.dm_map.specs.declared.walk.stretch.Ground.{Ground}
 use Rattle.std.specs.Prelude.{◌≡◌, ◌+◌, ◌-◌, ◌<◌, ◌≤◌}
 
-ok : List ℕ → Result (List ℕ) ByteFault
-ok bytes = Ok bytes
-
-pub kept_none : (at : ℕ) (block : List ℕ) → AreKept at block block
-kept_none at block = record { each = λ i less. refl; len = refl }
-
 -- two steps, the second of which keeps more sectors, keep what the first keeps
 pub kept_more : (at done : ℕ) (a b c : List ℕ) → AreKept at a b → AreKept (at + done) b c → AreKept at a c
 kept_more at done a b c first second = record {

@@ -1,7 +1,5 @@
 -- What a read of a top device answers if no claims clash: what the device would hold alone, or an error; no error if the stack can't lose anything.
-use Rattle.dm_replay.proofs.Prelude.{inl, inr, ℕ, zero, suc, Bool, true, false, cond, List, [], Option, Some, None, nat_lt, replicate, refl, ap, arith, le-ltb, Device, IsTidy, IsTop, Description, device_len, AreAlwaysExact, AreNeverLost, IsAmple, IsIntact, Stays, content, value_read, AreAlone, IsOwnAt, Rows, request_step, sector_step, read, IsFitting, State, keep, steps, BlockUnit, Fails, IsRead, Sector, Nothing, Fault, is_read, Value, Asked, World, asked_answers, world_after, AreOfTops, Answer, Gives, Failed, Values, played_answers}
-use Rattle.dm_table.specs.declared.requests.request.Op.TheVariants as ops
-use Rattle.dm_stack.specs.declared.checks.graph.TheConstants.{MOST_DEPTH}
+use Rattle.dm_replay.proofs.Prelude.{inl, inr, ℕ, zero, suc, Bool, true, false, cond, List, [], Option, Some, None, nat_lt, replicate, refl, ap, arith, le-ltb, Device, IsTidy, IsTop, Description, device_len, AreAlwaysExact, AreNeverLost, IsAmple, IsIntact, Stays, content, value_read, AreAlone, IsOwnAt, Rows, request_step, sector_step, read, IsFitting, State, keep, steps, BlockUnit, Fails, IsRead, Sector, Nothing, Fault, is_read, Value, Asked, World, asked_answers, world_after, AreOfTops, Answer, Gives, Failed, Values, played_answers, MOST_DEPTH, Read}
 use Rattle.dm_replay.specs.Rows.{AreExactlyRow, AreOfRow, answer_of, rows_after}
 use Rattle.dm_replay.specs.declared.value.Value.TheVariants as value
 use Rattle.dm_replay.proofs.OwnWorlds.{IsExact, exact_after, own_after}
@@ -39,14 +37,14 @@ first_of_row : (number device sector : ℕ) (unit : BlockUnit) (units : List Blo
 first_of_row number device sector unit units values rows reads first later = rw (first_read number sector unit units values reads) (first, later)
 
 reads_of_row : (stack : Description) (state : State) (number device start len : ℕ) (values : Values) (rows : Rows Value) → AreRead stack state values rows device
-    → AreOfRow rows device start (played_answers number start (steps (sector_step stack ops.Read MOST_DEPTH (Device device)) state start len).units values)
+    → AreOfRow rows device start (played_answers number start (steps (sector_step stack Read MOST_DEPTH (Device device)) state start len).units values)
 unfolding played_answers
 reads_of_row stack state number device start zero values rows each = none_of_row
   where
     none_of_row : AreOfRow rows device start (played_answers number start [] values)
     none_of_row = tt
 reads_of_row stack state number device start (suc len) values rows each =
-    first_of_row number device start (read stack state (Device device) start) (steps (sector_step stack ops.Read MOST_DEPTH (Device device)) state (suc start) len).units values rows
+    first_of_row number device start (read stack state (Device device) start) (steps (sector_step stack Read MOST_DEPTH (Device device)) state (suc start) len).units values rows
     (is_read stack state MOST_DEPTH (Device device) start) (each start) (reads_of_row stack state number device (suc start) len values rows each)
 
 errors_of_row : (number device start len : ℕ) (values : Values) (rows : Rows Value) → AreOfRow rows device start (played_answers number start (replicate len Fails) values)
@@ -55,14 +53,14 @@ errors_of_row number device start zero values rows = tt
 errors_of_row number device start (suc len) values rows = (inr refl, errors_of_row number device (suc start) len values rows)
 
 request_of_row : (stack : Description) (state : State) (number device start len : ℕ) (values : Values) (rows : Rows Value) → AreRead stack state values rows device
-    → AreOfRow rows device start (played_answers number start (request_step stack ops.Read device start len state).units values)
+    → AreOfRow rows device start (played_answers number start (request_step stack Read device start len state).units values)
 request_of_row stack state number device start len values rows each = by_end (nat_lt (device_len stack device) (start + len))
   where
-    by_end : (past : Bool) → AreOfRow rows device start (played_answers number start (cond past (keep (replicate len Fails) state) (steps (sector_step stack ops.Read MOST_DEPTH (Device device)) state start len)).units values)
+    by_end : (past : Bool) → AreOfRow rows device start (played_answers number start (cond past (keep (replicate len Fails) state) (steps (sector_step stack Read MOST_DEPTH (Device device)) state start len)).units values)
     by_end true = errors_of_row number device start len values rows
     by_end false = reads_of_row stack state number device start len values rows each
 
-pub own_answers : (stack : Description) (start : State) (all : List Asked) (asked : Asked) → AreAlone Value stack → IsTidy stack → IsFitting stack start → AreOfTops stack all → IsTop stack asked.device → asked.halted_after ≡ None → asked.op ≡ ops.Read
+pub own_answers : (stack : Description) (start : State) (all : List Asked) (asked : Asked) → AreAlone Value stack → IsTidy stack → IsFitting stack start → AreOfTops stack all → IsTop stack asked.device → asked.halted_after ≡ None → asked.op ≡ Read
     → AreOfRow (rows_after stack start all) asked.device asked.start (asked_answers stack (world_after stack start all) asked)
 own_answers stack start all asked law tidy fits each top whole reads =
     let world = world_after stack start all in
@@ -84,7 +82,7 @@ are_exact stack world device top exact sector inside =
     (of.0, of.2, ap answer_of of.1)
 
 reads_exactly : (stack : Description) (state : State) (number device start len : ℕ) (values : Values) (rows : Rows Value) → start + len ≤ device_len stack device → AreReadExactly stack state values rows device
-    → AreExactlyRow rows device start (played_answers number start (steps (sector_step stack ops.Read MOST_DEPTH (Device device)) state start len).units values)
+    → AreExactlyRow rows device start (played_answers number start (steps (sector_step stack Read MOST_DEPTH (Device device)) state start len).units values)
 unfolding played_answers
 reads_exactly stack state number device start zero values rows inside each = none_of_row
   where
@@ -92,14 +90,14 @@ reads_exactly stack state number device start zero values rows inside each = non
     none_of_row = tt
 reads_exactly stack state number device start (suc len) values rows inside each =
     let unit = read stack state (Device device) start in
-    let units = (steps (sector_step stack ops.Read MOST_DEPTH (Device device)) state (suc start) len).units in
+    let units = (steps (sector_step stack Read MOST_DEPTH (Device device)) state (suc start) len).units in
     rw (first_read number start unit units values (is_read stack state MOST_DEPTH (Device device) start)) (each start (omega (arith, inside)), reads_exactly stack state number device (suc start) len values rows (omega (arith, inside)) each)
 
 request_exactly : (stack : Description) (state : State) (number device start len : ℕ) (values : Values) (rows : Rows Value) → start + len ≤ device_len stack device → AreReadExactly stack state values rows device
-    → AreExactlyRow rows device start (played_answers number start (request_step stack ops.Read device start len state).units values)
+    → AreExactlyRow rows device start (played_answers number start (request_step stack Read device start len state).units values)
 request_exactly stack state number device start len values rows inside each = rw (le-ltb (device_len stack device) (start + len) inside) (reads_exactly stack state number device start len values rows inside each)
 
-pub exact_answers : (stack : Description) (start : State) (all : List Asked) (asked : Asked) → AreNeverLost stack → AreAlwaysExact Value stack → IsAmple stack → IsIntact stack start → IsTidy stack → AreOfTops stack all → IsTop stack asked.device → asked.halted_after ≡ None → asked.op ≡ ops.Read → asked.start + asked.len ≤ device_len stack asked.device
+pub exact_answers : (stack : Description) (start : State) (all : List Asked) (asked : Asked) → AreNeverLost stack → AreAlwaysExact Value stack → IsAmple stack → IsIntact stack start → IsTidy stack → AreOfTops stack all → IsTop stack asked.device → asked.halted_after ≡ None → asked.op ≡ Read → asked.start + asked.len ≤ device_len stack asked.device
     → AreExactlyRow (rows_after stack start all) asked.device asked.start (asked_answers stack (world_after stack start all) asked)
 exact_answers stack start all asked lost law ample intact tidy each top whole reads inside =
     let world = world_after stack start all in

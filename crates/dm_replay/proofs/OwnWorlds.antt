@@ -1,6 +1,5 @@
 -- Worlds in which each top device has what it would have alone, or errors, and worlds without errors: they stay like that if no claims clash.
-use Rattle.dm_replay.proofs.Prelude.{inl, ℕ, List, [], Option, Some, None, refl, Device, IsTidy, IsTop, Description, AreAlwaysExact, AreExact, AreNeverLost, IsAmple, IsIntact, IsOwnAt, after_played, value_read, AreAlone, BlockUnit, Fails, IsFitting, State, read, IsRead, Sector, Nothing, Fault, is_read, Value, Asked, World, first_world, next_world, with_values, world_after, world_from, AreOfTops, old_values}
-use Rattle.dm_stack.specs.declared.checks.graph.TheConstants.{MOST_DEPTH}
+use Rattle.dm_replay.proofs.Prelude.{inl, ℕ, List, [], Option, Some, None, refl, Device, IsTidy, IsTop, Description, AreAlwaysExact, AreExact, AreNeverLost, IsAmple, IsIntact, IsOwnAt, after_played, value_read, AreAlone, BlockUnit, Fails, IsFitting, State, read, IsRead, Sector, Nothing, Fault, is_read, Value, Asked, World, first_world, next_world, with_values, world_after, world_from, AreOfTops, old_values, MOST_DEPTH}
 use Rattle.dm_replay.specs.declared.value.Value.TheVariants as value
 use Rattle.std.specs.Prelude.{◌≡◌, ◌∷◌}
 

@@ -1,7 +1,5 @@
 -- The state after a halted request is the one after its whole sectors are mapped again.
-use Rattle.dm_replay.proofs.Prelude.{ℕ, zero, suc, Bool, true, false, cond, List, [], get_or, length, min, nat_lt, replicate, take, refl, sym, ap, ◌∙◌, arith, nat_tests, take_more, Op, Device, Description, device_len, answers, sector_after, sector_past, MapperView, request_step, sector_step, State, start_state, keep, steps, halted_state, halted_units, BlockUnit, Fails, KeptWrite, rerun_from, rerun_step, with_request}
-use Rattle.dm_table.specs.declared.requests.request.Op.TheVariants as ops
-use Rattle.dm_stack.specs.declared.checks.graph.TheConstants.{MOST_DEPTH}
+use Rattle.dm_replay.proofs.Prelude.{ℕ, zero, suc, Bool, true, false, cond, List, [], get_or, length, min, nat_lt, replicate, take, refl, sym, ap, ◌∙◌, arith, nat_tests, take_more, Op, Device, Description, device_len, answers, sector_after, sector_past, MapperView, request_step, sector_step, State, start_state, keep, steps, halted_state, halted_units, BlockUnit, Fails, KeptWrite, rerun_from, rerun_step, with_request, MOST_DEPTH, Read, Write}
 use Rattle.std.specs.Prelude.{◌≡◌, ◌+◌, ◌-◌, ◌<◌, ◌≤◌, ◌∷◌, ◌++◌}
 
 -- Requests that change no state
@@ -13,14 +11,14 @@ none_mapped stack op device start state = by_end (nat_lt (device_len stack devic
     by_end true = refl
     by_end false = refl
 
-reads_keep : (stack : Description) (device start len : ℕ) (state : State) → (steps (sector_step stack ops.Read MOST_DEPTH (Device device)) state start len).state ≡ state
+reads_keep : (stack : Description) (device start len : ℕ) (state : State) → (steps (sector_step stack Read MOST_DEPTH (Device device)) state start len).state ≡ state
 reads_keep stack device start zero state = refl
 reads_keep stack device start (suc len) state = reads_keep stack device (suc start) len state
 
-pub read_mapped : (stack : Description) (device start len : ℕ) (state : State) → (request_step stack ops.Read device start len state).state ≡ state
+pub read_mapped : (stack : Description) (device start len : ℕ) (state : State) → (request_step stack Read device start len state).state ≡ state
 read_mapped stack device start len state = by_end (nat_lt (device_len stack device) (start + len))
   where
-    by_end : (past : Bool) → (cond past (keep (replicate len Fails) state) (steps (sector_step stack ops.Read MOST_DEPTH (Device device)) state start len)).state ≡ state
+    by_end : (past : Bool) → (cond past (keep (replicate len Fails) state) (steps (sector_step stack Read MOST_DEPTH (Device device)) state start len)).state ≡ state
     by_end true = refl
     by_end false = reads_keep stack device start len state
 
@@ -96,8 +94,8 @@ rerun-push stack state (first ∷ all) kept = rerun-push stack (rerun_step stack
 -- the state after one more request, which may be a read, by mapping the kept writes again
 pub rerun_more : (stack : Description) (start : State) (op : Op) (write : KeptWrite) (writes : List KeptWrite) (before after : State) → rerun_from stack start writes ≡ before → (request_step stack op write.device write.start write.whole before).state ≡ after
     → rerun_from stack start (with_request op write writes) ≡ after
-rerun_more stack start ops.Read write writes before after is step = is ∙ sym (read_mapped stack write.device write.start write.whole before) ∙ step
-rerun_more stack start ops.Write write writes before after is step = rerun-push stack start writes write ∙ ap (rerun_step stack write) is ∙ step
+rerun_more stack start Read write writes before after is step = is ∙ sym (read_mapped stack write.device write.start write.whole before) ∙ step
+rerun_more stack start Write write writes before after is step = rerun-push stack start writes write ∙ ap (rerun_step stack write) is ∙ step
 
 pub rerun_first : (stack sink : Description) (mapper : MapperView) (all : List KeptWrite) → mapper.failed ≡ false → mapper.stack ≡ stack → sink ≡ stack → mapper.state ≡ start_state stack → IsRerun stack sink mapper (take 0 all)
 unfolding rerun_from

@@ -1,6 +1,5 @@
 -- Worlds after one more request, played to its end or halted.
-use Rattle.dm_replay.proofs.Prelude.{ℕ, false, cond, List, [], length, min, nat_lt, Option, Some, None, refl, ◌∙◌, arith, AllByRecursion, Op, Request, IsTidy, IsTop, Description, device_len, MapperView, left_state, played_of, request_step, step_for, IsFitting, State, sector_past, halted_units, AreAlone, KeptWrite, RangeValues, Value, ValueRun, Asked, World, asked_answers, first_world, next_world, with_values, world_after, world_from, AreValuesOf, values_of, answers_cong, played_cong, AreOfTops, IsGoing, IsKept, whole_request, kept_request, rerun_from, with_request, flat, old_values, played, played_answers, all_append}
-use Rattle.dm_table.specs.declared.requests.request.Op.TheVariants as ops
+use Rattle.dm_replay.proofs.Prelude.{ℕ, false, cond, List, [], length, min, nat_lt, Option, Some, None, refl, ◌∙◌, arith, AllByRecursion, Op, Request, IsTidy, IsTop, Description, device_len, MapperView, left_state, played_of, request_step, step_for, IsFitting, State, sector_past, halted_units, AreAlone, KeptWrite, RangeValues, Value, ValueRun, Asked, World, asked_answers, first_world, next_world, with_values, world_after, world_from, AreValuesOf, values_of, answers_cong, played_cong, AreOfTops, IsGoing, IsKept, whole_request, kept_request, rerun_from, with_request, flat, old_values, played, played_answers, all_append, Read, Write}
 use Rattle.dm_replay.proofs.OfDiskLemmas.{old_of, same_of}
 use Rattle.dm_replay.proofs.OwnWorlds.{own_after}
 use Rattle.dm_replay.proofs.Playbacks.{units_asked}
@@ -65,8 +64,8 @@ going_next stack disks later_disks start mapper later ranges newer all writes mo
 
 -- the kept writes of top devices, with one more request
 pub kept_more : (stack : Description) (op : Op) (write : KeptWrite) (writes : List KeptWrite) → IsKept stack write → AllByRecursion (IsKept stack) writes → AllByRecursion (IsKept stack) (with_request op write writes)
-kept_more stack ops.Read write writes one each = each
-kept_more stack ops.Write write writes one each = all_append (IsKept stack) writes (write ∷ []) each (one, tt)
+kept_more stack Read write writes one each = each
+kept_more stack Write write writes one each = all_append (IsKept stack) writes (write ∷ []) each (one, tt)
 
 -- the whole sectors of a request, as a write to keep
 abbrev pub write_of : Request → (device whole : ℕ) → KeptWrite

@@ -1,9 +1,6 @@
 -- The playback of a request: who can play it, and what it leaves.
-use Rattle.dm_replay.specs.Base.{ℕ, false, List, length, Request, Description, MapperView, BlockUnit}
+use Rattle.dm_replay.specs.Prelude.{ℕ, false, List, length, Request, Description, MapperView, BlockUnit, AreValuesOf, values_of, played}
 use Rattle.dm_replay.specs.declared.player.Player.{Player}
-use Rattle.dm_replay.specs.OfDisks.{AreValuesOf}
-use Rattle.dm_replay.specs.Stored.{values_of}
-use Rattle.dm_replay.specs.Values.{played}
 use Rattle.std.specs.Prelude.{◌≡◌, ◌<◌}
 
 -- a mapper that has not failed, and a player of the same stack; the stack has the device, and the disks that the player's values name

@@ -1,6 +1,5 @@
 -- Names that contracts cite, here and in crates above, re-exported from one place.
-pub use Rattle.dm_map.specs.Prelude.{FillOf, IsOnDisk, IsOnDisks, halted_units, piece_len, step_for, units_in, units_of}
-pub use Rattle.dm_replay.specs.Base.{AllByRecursion, AreTops, CopyOf, IsFitting, IsIntact, IsTidy, IsTop, None, OnFalse, OnTrue, Option, ReadOf, Some, WriteOf, [], code, decimal, device_len, false, is_same, length, nat_lt, position, start_state, true, ℕ}
+pub use Rattle.dm_replay.specs.Base.{AllByRecursion, AreTops, BlockUnit, CopyOf, Description, FillOf, IfErr, IfOk, IfSome, IsFitting, IsIntact, IsOnDisk, IsOnDisks, IsPut, IsTidy, IsTop, KeptWrite, List, MapperView, None, OnErr, OnFalse, OnOk, OnTrue, Op, Option, ReadOf, Request, Some, Value, ValueRun, WriteOf, Wrote, [], code, decimal, device_len, false, halted_units, is_same, length, min, nat_lt, piece_len, position, start_state, step_for, true, units_in, units_of, ℕ}
 unfoldable pub use Rattle.dm_replay.specs.Base.{sector_past}
 pub use Rattle.dm_replay.specs.Halting.{HasHalted, HasTaken}
 pub use Rattle.dm_replay.specs.Histories.{Asked, World, asked_answers, first_world, next_world, with_values, world_after}
@@ -18,12 +17,7 @@ unfoldable pub use Rattle.dm_replay.specs.Stored.{stored_in}
 pub use Rattle.dm_replay.specs.Values.{Answer, Failed, Gives, Values, further, next_value, old_values, played, played_unit, unit_answers, value_end}
 unfoldable pub use Rattle.dm_replay.specs.Values.{played_answers}
 pub use Rattle.dm_replay.specs.declared.halting.Halting.{Halting}
-pub use Rattle.dm_replay.specs.declared.kept_write.KeptWrite.{KeptWrite}
 pub use Rattle.dm_replay.specs.declared.playing.Playing.{Playing}
 pub use Rattle.dm_replay.specs.declared.range_values.RangeValues.{RangeValues}
 pub use Rattle.dm_replay.specs.declared.replay_fault.ReplayFault.{ReplayFault}
-pub use Rattle.dm_replay.specs.declared.value.Value.{Value}
-pub use Rattle.dm_replay.specs.declared.value_run.ValueRun.{ValueRun}
 pub use Rattle.dm_replay.specs.laws.Play.{AreSame, answers_cong, played_both, played_cong, played_nothing}
-pub use Rattle.dm_table.specs.Prelude.{IsPut, Wrote}
-pub use Rattle.dm_table.specs.Std.{IfErr, IfOk, IfSome, OnErr, OnOk, min}

@@ -74,9 +74,12 @@ lower_len stack (lowers.Device device) = device_len stack device
 lower_len stack (lowers.Disk disk) = disk_len stack disk
 
 -- the id of the device that a reference names; nothing for a disk
+abbrev pub lower_link : Lower → List ℕ
+lower_link (lowers.Device id) = id ∷ []
+lower_link (lowers.Disk id) = []
+
 abbrev pub ref_link : Description → DevRef → List ℕ
-ref_link stack (refs.Device name) = device_id stack name ∷ []
-ref_link stack (refs.Disk name) = []
+ref_link stack to = lower_link (lower_of stack to)
 
 -- the ids of the devices that a line names, in order
 abbrev pub line_links : Description → Line → List ℕ

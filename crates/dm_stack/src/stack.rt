@@ -3,8 +3,7 @@
 //! Soundness is the invariant of `Stack`, so callers never check it again: a value is only made by the checks of
 //! a load. A load looks up all names; afterwards everything goes by ids.
 
-ghost use Rattle.dm_stack.specs.Prelude.{ℕ, IfErr, IfOk, IfSome, IsTrue, OnOk, List, Option, Some, drop, is_none, length, position, take, true, Memory, Source, code, is_device_name, is_disk_name, IsMemoryFault, resolved_lines, IsLineOf, AreTops, IsFirstClash, IsThere, IsTidy, IsTop, claims, Description, described, device_len, disk_len, is_ro_at, is_same, name_at, disk_name_at, lines_at, IsDeeperByOne, IsLength, all_places, snapshots, stack_depth, AreSnapshots, IsLast, binary_digits, IsRefusedBy, IsSound, Claim, Clash};
-ghost use Rattle.dm_table.specs.declared.load.load_fault.LoadFault.{LoadFault};
+ghost use Rattle.dm_stack.specs.Prelude.{ℕ, IfErr, IfOk, IfSome, IsTrue, OnOk, List, Option, Some, drop, is_none, length, position, take, true, Memory, Source, code, is_device_name, is_disk_name, IsMemoryFault, resolved_lines, IsLineOf, AreTops, IsFirstClash, IsThere, IsTidy, IsTop, claims, Description, described, device_len, disk_len, is_ro_at, is_same, name_at, disk_name_at, lines_at, IsDeeperByOne, IsLength, all_places, snapshots, stack_depth, AreSnapshots, IsLast, binary_digits, IsRefusedBy, IsSound, Claim, Clash, LoadFault};
 ghost use Rattle.dm_stack.specs.declared.checks.graph.TheConstants.{MOST_DEPTH};
 ghost use Rattle.dm_stack.specs.declared.checks.limits.TheConstants.{MOST_CHUNK, MOST_DEVICES, MOST_DISKS};
 ghost use Rattle.dm_stack.specs.declared.checks.limits.TheConstants.{MOST_LENGTH, MOST_LINES, MOST_PLACES};

@@ -1,8 +1,7 @@
 -- A restart finds the state that the stores' lists keep, and each sector of a top device then reads as its row says, or as an error.
-use Rattle.dm_store.proofs.Prelude.{inl, inr, ℕ, zero, suc, true, false, List, [], Option, Some, None, Result, Ok, length, refl, sym, ap, subst, ◌∙◌, arith, AllByRecursion, cases_Bool, eq-eqb, get_or_append_left, length-append, le-suc_iff, get_or-append_seam, StoreKind, Transient, Device, Disk, ResolvedLine, ResolvedSnapshot, ResolvedTarget, IsSound, IsTidy, IsTop, Description, Below, Lies, IsError, below_line, below_target, found_at, AreExact, IsAmple, IsOwnAt, Moment, after_played, Stays, value_read, AreOwn, Rows, BlockUnit, Zeros, Fails, IsFitting, read_over, State, Taken, lost, none_taken, taken_at, snapshot_at, by_below, read_below, read_unit, exact, line_snapshot, line_there, snapshot_sound, StoreFault, Store, IsLostInStore, DiskContents, Sectors, Ahead, AllKeepLists, AreListed, AreRestarts, Event, Gone, Held, IsFound, IsOfTop, IsRestart, Lists, Loses, Plays, Spelled, Unused, after_event, after_events, kept, kept_first, kept_in, if_listing, snapshot_store, start_of, state_of_first, store_at, store_if, store_sectors, stored_state, taken_if, taken_in, Fresh, Lost, listed, stored}
+use Rattle.dm_store.proofs.Prelude.{inl, inr, ℕ, zero, suc, true, false, List, [], Option, Some, None, Result, Ok, length, refl, sym, ap, subst, ◌∙◌, arith, AllByRecursion, cases_Bool, eq-eqb, get_or_append_left, length-append, le-suc_iff, get_or-append_seam, StoreKind, Transient, Device, Disk, ResolvedLine, ResolvedSnapshot, ResolvedTarget, IsSound, IsTidy, IsTop, Description, Below, Lies, IsError, below_line, below_target, found_at, AreExact, IsAmple, IsOwnAt, Moment, after_played, Stays, value_read, AreOwn, Rows, BlockUnit, Zeros, Fails, IsFitting, read_over, State, Taken, lost, none_taken, taken_at, snapshot_at, by_below, read_below, read_unit, exact, line_snapshot, line_there, snapshot_sound, StoreFault, Store, IsLostInStore, DiskContents, Sectors, Ahead, AllKeepLists, AreListed, AreRestarts, Event, Gone, Held, IsFound, IsOfTop, IsRestart, Lists, Loses, Plays, Spelled, Unused, after_event, after_events, kept, kept_first, kept_in, if_listing, snapshot_store, start_of, state_of_first, store_at, store_if, store_sectors, stored_state, taken_if, taken_in, Fresh, Lost, listed, stored, Snapshot}
 use Rattle.dm_stack.specs.declared.id.Lower.{Lower}
 use Rattle.dm_stack.specs.declared.checks.graph.TheConstants.{MOST_DEPTH}
-use Rattle.dm_stack.specs.declared.lines.resolved_line.ResolvedTarget.TheVariants as found
 use Rattle.dm_map.specs.Prelude.{Asked}
 use Rattle.dm_map.proofs.CutLemmas.{ahead_own, spare_own}
 use Rattle.dm_map.proofs.ChunkOutcomes.{fits_put}
@@ -89,12 +88,12 @@ over_kept taken store snapshot sector = elim (cases_Bool taken.valid) [
       ap (λ (t : Taken). read_over t snapshot sector) (gone_kept store taken gone) ∙ sym error
 ]
 
-target_same : (taken other : Taken) (target : ResolvedTarget) (distance : ℕ) → ((snapshot : ResolvedSnapshot) → target ≡ found.Snapshot snapshot → read_over taken snapshot distance ≡ read_over other snapshot distance)
+target_same : (taken other : Taken) (target : ResolvedTarget) (distance : ℕ) → ((snapshot : ResolvedSnapshot) → target ≡ Snapshot snapshot → read_over taken snapshot distance ≡ read_over other snapshot distance)
     → below_target (read_over taken) target distance ≡ below_target (read_over other) target distance
-target_same taken other (found.Snapshot snapshot) distance same = same snapshot refl
+target_same taken other (Snapshot snapshot) distance same = same snapshot refl
 target_same taken other target distance same = refl
 
-line_same : (taken other : Taken) (line : Option ResolvedLine) (sector : ℕ) → ((it : ResolvedLine) (snapshot : ResolvedSnapshot) → line ≡ Some it → it.target ≡ found.Snapshot snapshot → read_over taken snapshot (sector - it.start) ≡ read_over other snapshot (sector - it.start))
+line_same : (taken other : Taken) (line : Option ResolvedLine) (sector : ℕ) → ((it : ResolvedLine) (snapshot : ResolvedSnapshot) → line ≡ Some it → it.target ≡ Snapshot snapshot → read_over taken snapshot (sector - it.start) ≡ read_over other snapshot (sector - it.start))
     → below_line (read_over taken) line sector ≡ below_line (read_over other) line sector
 line_same taken other None sector same = refl
 line_same taken other (Some line) sector same = target_same taken other line.target (sector - line.start) (λ snapshot is. same line snapshot refl is)

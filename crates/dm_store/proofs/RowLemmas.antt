@@ -1,5 +1,5 @@
 -- Rows of a list: those of one metadata area are consecutive sectors of the store, and within it.
-use Rattle.dm_store.proofs.Prelude.{ℕ, List, Result, Ok, length, sym, ap, subst, ◌∙◌, arith, Err, IfErr, IfOk, OnOk, div-add-mod', div-mul-add, mod-mul-add, take_all, mul-le-mul_right, Description, GoOn, Home, home, SectorFault, Store, AreRead, DiskContents, sector_in, area_count, row_sector, Sectors, HasRows, IsRowOf, store_sectors}
+use Rattle.dm_store.proofs.Prelude.{ℕ, List, Result, Ok, length, sym, ap, subst, ◌∙◌, arith, Err, IfErr, IfOk, OnOk, div-add-mod', div-mul-add, mod-mul-add, take_all, mul-le-mul_right, Description, GoOn, Home, home, SectorFault, Store, AreRead, DiskContents, sector_in, area_count, row_sector, Sectors, HasRows, store_sectors}
 use Rattle.dm_store.specs.declared.row_range.RowRange.{RowRange}
 use Rattle.std.specs.Prelude.{◌≡◌, ◌+◌, ◌-◌, ◌*◌, ◌/◌, ◌%◌, ◌<◌, ◌≤◌}
 
@@ -89,9 +89,3 @@ one_row sectors chunk row (Err fault) block at is read has = tt
 pub row_fault : (result : Result RowRange SectorFault) (here at : Result (List ℕ) SectorFault) → here ≡ at → IfErr result (λ fault. at ≡ Err fault) → IfErr result (λ fault. here ≡ Err fault)
 row_fault (Ok rows) here at is unread = tt
 row_fault (Err fault) here at is unread = is ∙ unread
-
--- a row that the block holds
-pub row_of : (sectors : Sectors) (chunk row : ℕ) (rows : RowRange) (block : List ℕ) → HasRows sectors chunk rows block → IsRowOf rows row → sectors (row_sector chunk row) ≡ Ok (sector_in block (row - rows.first))
-row_of sectors chunk row rows block has is =
-    let at : rows.first + (row - rows.first) ≡ row = omega (arith, is.0) in
-    ap (λ (n : ℕ). sectors (row_sector chunk n)) (sym at) ∙ has (row - rows.first) (omega (arith, is.0, is.1))

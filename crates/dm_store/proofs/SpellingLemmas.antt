@@ -1,6 +1,5 @@
 -- The list that a store spells is what reading the store gives.
-use Rattle.dm_store.proofs.Prelude.{inl, inr, ℕ, zero, suc, Bool, true, false, List, [], Option, None, Result, get_or, length, nat_eq, take, refl, sym, ap, subst, ◌∙◌, arith, IsDistinct, nat_lt, not, slice_index, eq-eqb, le-leb, lt-ltb, ne_eqb, and_from, take_all, take-suc, slice_get-get_or, ListFault, SectorFault, Pair, Store, four_at, Sectors, each, old_chunks, pair, pair_count, rest_count, IsClear, ReadsBack, Spells, Holds, are_zeros, is_clear, is_clear_in, list_fault, fault_of, is_any_again, is_listed, is_near, is_placed, list_count, listed, of_count, of_list, Persistent, place, number_in}
-use Rattle.dm_table.proofs.Lists.{at_index}
+use Rattle.dm_store.proofs.Prelude.{inl, inr, ℕ, zero, suc, Bool, true, false, List, [], Option, None, Result, get_or, length, nat_eq, take, refl, sym, ap, subst, ◌∙◌, arith, IsDistinct, nat_lt, not, slice_index, eq-eqb, le-leb, lt-ltb, ne_eqb, and_from, take_all, take-suc, slice_get-get_or, ListFault, SectorFault, Pair, Store, four_at, Sectors, each, old_chunks, pair, pair_count, rest_count, IsClear, ReadsBack, Spells, Holds, are_zeros, is_clear, is_clear_in, list_fault, fault_of, is_any_again, is_listed, is_near, is_placed, list_count, listed, of_count, of_list, Persistent, place, number_in, at_index}
 use Rattle.dm_store.proofs.ListLemmas.{count_full, count_stop}
 use Rattle.dm_store.proofs.WalkLemmas.{count_all, count_less, pair_known, rest_clear, rest_some}
 use Rattle.std.specs.Prelude.{◌≡◌, ◌+◌, ◌%◌, ◌<◌, ◌≤◌, ◌∷◌, ◌==◌}

@@ -1,6 +1,5 @@
 -- The state of all devices from the entry of each, and which devices are snapshots.
-use Rattle.dm_store.proofs.Prelude.{inl, inr, ℕ, zero, suc, Bool, true, false, cond, List, Option, Some, None, Result, Ok, Err, filter, get_or, length, take, refl, sym, ap, subst, ◌∙◌, arith, option_and_then, Contains, range_with_len, cases_lt, cases_order, get_or-set_other, get_or_default, get_or_past, All-get_or, le-suc_iff, take-suc, ResolvedLine, ResolvedSnapshot, ResolvedTarget, Description, lines_at, AreSnapshots, IsSnapshot, has_snapshot, snapshots, found_at, State, Taken, none_taken, put, taken_at, snapshot_of, StoreFault, DiskContents, start_of, state_of_first, store_if, taken_if, with_next}
-use Rattle.dm_stack.specs.declared.lines.resolved_line.ResolvedTarget.TheVariants as found
+use Rattle.dm_store.proofs.Prelude.{inl, inr, ℕ, zero, suc, Bool, true, false, cond, List, Option, Some, None, Result, Ok, Err, filter, get_or, length, take, refl, sym, ap, subst, ◌∙◌, arith, option_and_then, Contains, range_with_len, cases_lt, cases_order, get_or-set_other, get_or_default, get_or_past, All-get_or, le-suc_iff, take-suc, ResolvedLine, ResolvedSnapshot, ResolvedTarget, Description, lines_at, AreSnapshots, IsSnapshot, has_snapshot, snapshots, found_at, State, Taken, none_taken, put, taken_at, snapshot_of, StoreFault, DiskContents, start_of, state_of_first, store_if, taken_if, with_next, Snapshot}
 use Rattle.std.specs.Prelude.{◌≡◌, ◌+◌, ◌<◌, ◌≤◌, ◌∷◌}
 
 -- ---- the state of the first devices
@@ -62,12 +61,12 @@ gap xs most next i rising before below there =
 -- ---- a device that isn't a snapshot took nothing
 
 pub no_snapshot_in : (stack : Description) (disks : DiskContents) (device : ℕ) (line : Option ResolvedLine)
-    → ((there : ResolvedLine) (snapshot : ResolvedSnapshot) → line ≡ Some there → there.target ≡ found.Snapshot snapshot → ⊥) → taken_if stack disks (store_if stack device (option_and_then (λ (l : ResolvedLine). snapshot_of l.target) line)) ≡ Ok none_taken
+    → ((there : ResolvedLine) (snapshot : ResolvedSnapshot) → line ≡ Some there → there.target ≡ Snapshot snapshot → ⊥) → taken_if stack disks (store_if stack device (option_and_then (λ (l : ResolvedLine). snapshot_of l.target) line)) ≡ Ok none_taken
 no_snapshot_in stack disks device None none = refl
 no_snapshot_in stack disks device (Some line) none = by_target line.target refl
   where
     by_target : (target : ResolvedTarget) → line.target ≡ target → taken_if stack disks (store_if stack device (snapshot_of line.target)) ≡ Ok none_taken
-    by_target (found.Snapshot snapshot) is = absurd (none line snapshot refl is)
+    by_target (Snapshot snapshot) is = absurd (none line snapshot refl is)
     by_target _ is = rw is refl
 
 pub no_snapshot : (stack : Description) (disks : DiskContents) (devices : List ℕ) (device : ℕ) → AreSnapshots stack devices → (Contains devices device → ⊥) → start_of stack disks device ≡ Ok none_taken

@@ -8,6 +8,7 @@ use Rattle.dm_store.proofs.ListedLemmas.{store_there}
 use Rattle.dm_store.proofs.RestartLemmas.{listed_back}
 use Rattle.dm_store.proofs.SpeltLemmas.{is_spelled}
 use Rattle.dm_store.proofs.WorkedStore.{entry, header}
+use Rattle.dm_table.specs.io.LittleEndian.{eight_at, four_at}
 use Rattle.std.specs.Prelude.{◌≡◌, ◌∷◌, ◌++◌}
 
 -- s: a snapshot of disk 0 with chunks of one sector. Its store is disk 1, with room for two areas: the header, area 0, 32 places, area 1, and 29 places
@@ -58,7 +59,7 @@ abbrev new : Moment Held
 new = record { values = listed left.values; state = taken; rows = left.rows }
 
 says : (disks : DiskContents) → stored (store_sectors sample (listed disks) store) store ≡ Holds (7 ∷ 8 ∷ [])
-unfolding count_of each is_any_again old_chunks home_to
+unfolding count_of each eight_at four_at is_any_again old_chunks home_to
 says disks = refl
 
 only : store_at sample 0 ≡ Some store

@@ -1,5 +1,6 @@
 -- Examples of a store's sectors that check the definitions, worked out by hand.
 use Rattle.dm_store.proofs.Prelude.{ℕ, zero, suc, List, [], Result, Ok, Err, refl, Disk, SectorFault, Unread, Gap, Listed, Order, Store, area_count, row_sector, Sectors, count_of, each, old_chunks, Fresh, Lost, Holds, Refused, is_any_again, stored, Missing}
+use Rattle.dm_table.specs.io.LittleEndian.{eight_at, four_at}
 use Rattle.std.specs.Prelude.{◌≡◌, ◌∷◌, ◌++◌}
 
 -- chunks of one sector, with room for two areas: the header, area 0, 32 places, area 1, and 29 places
@@ -31,30 +32,30 @@ of_sectors header area (suc zero) = area
 of_sectors header area sector = Err Missing
 
 holds : stored (of_sectors (header 1) (Ok rows)) store ≡ Holds (7 ∷ 0 ∷ 99 ∷ [])
-unfolding count_of each is_any_again old_chunks
+unfolding count_of each eight_at four_at is_any_again old_chunks
 holds = refl
 
 -- a header that isn't valid means a lost snapshot, whatever is in the list
 lost : stored (of_sectors (header 0) (Ok rows)) store ≡ Lost
-unfolding count_of each is_any_again old_chunks
+unfolding count_of each eight_at four_at is_any_again old_chunks
 lost = refl
 
 -- a header that is all zeros means that nothing was written yet
 fresh : stored (of_sectors (0 ∷ 0 ∷ 0 ∷ 0 ∷ []) (Err Missing)) store ≡ Fresh
-unfolding count_of each is_any_again old_chunks
+unfolding count_of each eight_at four_at is_any_again old_chunks
 fresh = refl
 
 -- the sector with the first pair is missing
 unread : stored (of_sectors (header 1) (Err Missing)) store ≡ Refused (Unread Missing)
-unfolding count_of each is_any_again old_chunks
+unfolding count_of each eight_at four_at is_any_again old_chunks
 unread = refl
 
 -- a pair that isn't in its place
 misplaced : stored (of_sectors (header 1) (Ok (entry 7 2 ++ entry 0 4 ++ entry 0 0))) store ≡ Refused (Listed Order)
-unfolding count_of each is_any_again old_chunks
+unfolding count_of each eight_at four_at is_any_again old_chunks
 misplaced = refl
 
 -- a pair after the end of the list
 gap : stored (of_sectors (header 1) (Ok (entry 7 2 ++ entry 0 0 ++ entry 99 4))) store ≡ Refused Gap
-unfolding count_of each is_any_again old_chunks
+unfolding count_of each eight_at four_at is_any_again old_chunks
 gap = refl

@@ -6,7 +6,7 @@ use Rattle.dm_store.specs.Places.{Place}
 
 -- the image of the disk with this name, if the list has a path for it
 abbrev pub image_in : List DiskPath → (name : List ℕ) → Option Place
-image_in paths name = option_map (λ path. record { line = path.at.number; path = path.file; start = path.start }) (find (λ path. is_same path.disk name) paths)
+image_in paths name = option_map (λ path. record { line = path.at.number; path = path.file; extent = path.extent }) (find (λ path. is_same path.disk name) paths)
 
 -- the image of each disk of a stack, in the order of ids, or the first fault of the list
 abbrev pub images_of : Description → List DiskPath → Result (List (Option Place)) LoadFault

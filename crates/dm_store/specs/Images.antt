@@ -1,22 +1,17 @@
 -- What image files hold, and what the disks in them hold.
-use Rattle.dm_store.specs.Base.{ℕ, List, Option, Some, None, Result, Ok, Err, length, slice_range, slice_index_or, SectorFault, Missing, Read}
-use Rattle.dm_store.specs.declared.images.ReadFault.{ReadFault}
+use Rattle.dm_store.specs.Base.{ℕ, List, Option, Some, None, Result, Ok, Err, nat_lt, slice_index_or, SectorFault, Missing, Read, Extent}
+use Rattle.dm_table.specs.declared.io.sectors.ReadFault.{ReadFault}
 use Rattle.dm_store.specs.Places.{Place}
 use Rattle.dm_store.specs.Pairs.{Sectors}
-use Rattle.std.specs.Prelude.{◌≡◌, ◌+◌, ◌*◌, ◌<◌}
+use Rattle.std.specs.Prelude.{◌+◌, if◌then◌else◌}
 
 -- the bytes of each sector of each image, or why it can't be read; an image is named by the number of its line in the list, and its path
 abbrev pub Contents : Type 0
 Contents = (line : ℕ) → (path : List ℕ) → (sector : ℕ) → Result (List ℕ) ReadFault
 
--- the 512 bytes of the sector with this index in a block of consecutive sectors
-abbrev pub sector_in : (bytes : List ℕ) → (index : ℕ) → List ℕ
-sector_in bytes index = slice_range bytes (512 * index) (512 * index + 512)
-
--- what one read tells about the sectors from this one on: if it succeeds, each holds its 512 bytes; if it fails, only a read of a single sector tells anything
-abbrev pub AreRead : {F : Type 0} → (sectors : ℕ → Result (List ℕ) F) → (from : ℕ) → Result (Unit {0}) F → (bytes : List ℕ) → Type 0
-AreRead sectors from (Ok done) bytes = (i : ℕ) → 512 * i < length bytes → sectors (from + i) ≡ Ok (sector_in bytes i)
-AreRead sectors from (Err fault) bytes = length bytes ≡ 512 → sectors from ≡ Err fault
+-- the sectors of an extent of an image: past its end none can be read
+abbrev pub in_extent : Extent → (image : ℕ → Result (List ℕ) ReadFault) → (sector : ℕ) → Result (List ℕ) ReadFault
+in_extent extent image sector = if nat_lt sector extent.len then image (extent.start + sector) else Err (record {})
 
 -- the bytes of each sector of each disk, or why it can't be read
 abbrev pub DiskContents : Type 0
@@ -29,7 +24,7 @@ on_disk (Err fault) = Err Read
 
 -- what a disk's sector holds, if the disk starts at this place in an image; missing, if it is in no image
 abbrev pub in_image : Contents → Option Place → Sectors
-in_image held (Some place) sector = on_disk (held place.line place.path (place.start + sector))
+in_image held (Some place) sector = on_disk (in_extent place.extent (held place.line place.path) sector)
 in_image held None sector = Err Missing
 
 -- where the disk with this id is, if it is in an image

@@ -1,4 +1,3 @@
-pub mod Numbers
 pub mod Layout
 pub mod Pairs
 pub mod Stored

@@ -1,6 +1,5 @@
 -- The list of a store as a function: from a number to a pair of a chunk of the origin and a chunk of the store.
-use Rattle.dm_store.specs.Base.{ℕ, zero, suc, Bool, true, List, [], Result, Ok, Err, SectorFault, Pair}
-use Rattle.dm_store.specs.Numbers.{eight_at}
+use Rattle.dm_store.specs.Base.{ℕ, zero, suc, Bool, true, List, [], Result, Ok, Err, SectorFault, Pair, eight_at}
 use Rattle.dm_store.specs.Layout.{row_sector}
 use Rattle.std.specs.Prelude.{◌+◌, ◌*◌, ◌/◌, ◌%◌, ◌&&◌, ◌∷◌, ◌++◌, if◌then◌else◌}
 

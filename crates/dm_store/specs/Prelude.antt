@@ -1,13 +1,10 @@
 -- Names that contracts import, in dm_store and in the crates above it, gathered in one module.
-pub use Rattle.dm_map.specs.Prelude.{GoOn, IsWithinPlaces, start_state, with_chunk, with_looked}
-pub use Rattle.dm_stack.specs.Prelude.{IsSnapshot, name_at}
-pub use Rattle.dm_store.specs.Base.{Description, Err, List, None, Ok, Some, [], find, home, is_same, is_some, length, map, none_taken, number_in, option_map, put, slice_range, string_bytes, taken_at, true, ℕ}
+pub use Rattle.dm_store.specs.Base.{AreRead, Chunk, Description, Err, Gap, GoOn, IfErr, IfNone, IfOk, IfSome, IsMemoryFault, IsSnapshot, IsWithinPlaces, List, ListFault, Listed, Magic, Missing, None, Ok, OnErr, OnOk, Order, Pair, Persistent, Range, ResolvedSnapshot, SectorFault, Some, Store, StoreFault, Transient, Unread, Version, [], find, four_at, home, is_same, is_some, length, map, name_at, none_taken, number_in, option_map, put, sector_in, slice_range, start_state, string_bytes, taken_at, true, with_chunk, with_looked, ℕ}
 pub use Rattle.dm_store.specs.Fitting.{AlwaysFit, AlwaysHaveRows, AlwaysStart, Fit, IsLostInStore, IsStart}
 pub use Rattle.dm_store.specs.ImageList.{image_in, images_of}
-pub use Rattle.dm_store.specs.Images.{AreRead, Contents, DiskContents, disk_contents, place_of, sector_in}
+pub use Rattle.dm_store.specs.Images.{Contents, DiskContents, disk_contents, place_of, in_extent}
 pub use Rattle.dm_store.specs.Layout.{area_count, pair_count, rest_count, row_sector}
 pub use Rattle.dm_store.specs.Message.{fault_word, store_message}
-pub use Rattle.dm_store.specs.Numbers.{eight_at, four_at}
 pub use Rattle.dm_store.specs.Pairs.{Sectors, bytes_or_none, pair, pair_in}
 unfoldable pub use Rattle.dm_store.specs.Pairs.{count_of, each, old_chunks}
 pub use Rattle.dm_store.specs.Places.{Place}
@@ -22,15 +19,4 @@ unfoldable pub use Rattle.dm_store.specs.Start.{state_of_first}
 pub use Rattle.dm_store.specs.Stored.{Fresh, Holds, Lost, Refused, Stored, are_zeros, by_header, clear_count, ended, ended_by, fault_of, is_clear, is_clear_in, is_listed, is_near, is_placed, list_count, list_fault, listed, of_count, of_list, rest_fault, stored}
 unfoldable pub use Rattle.dm_store.specs.Stored.{is_any_again}
 pub use Rattle.dm_store.specs.declared.asked.Asked.{Asked}
-pub use Rattle.dm_store.specs.declared.fault.ListFault.{ListFault}
-pub use Rattle.dm_store.specs.declared.fault.ListFault.TheVariants.{Order, Range}
-pub use Rattle.dm_store.specs.declared.fault.SectorFault.{SectorFault}
-pub use Rattle.dm_store.specs.declared.fault.SectorFault.TheVariants.{Missing, Read}
-pub use Rattle.dm_store.specs.declared.fault.StoreFault.{StoreFault}
-pub use Rattle.dm_store.specs.declared.fault.StoreFault.TheVariants.{Chunk, Gap, Listed, Magic, Unread, Version}
 pub use Rattle.dm_store.specs.declared.fault.StoreRefusal.{StoreRefusal}
-pub use Rattle.dm_store.specs.declared.images.ReadFault.{ReadFault}
-pub use Rattle.dm_store.specs.declared.pair.Pair.{Pair}
-pub use Rattle.dm_store.specs.declared.store.Store.{Store}
-pub use Rattle.dm_table.specs.Prelude.{IsMemoryFault}
-pub use Rattle.dm_table.specs.Std.{IfErr, IfNone, IfOk, IfSome, OnErr, OnOk}

@@ -1,7 +1,7 @@
 -- What a log of reads tells about images.
-use Rattle.dm_store.specs.Base.{ℕ, List, [], drop, take}
+use Rattle.dm_store.specs.Base.{ℕ, List, [], drop, take, AreRead}
 use Rattle.dm_store.specs.declared.asked.Asked.{Asked}
-use Rattle.dm_store.specs.Images.{AreRead, Contents}
+use Rattle.dm_store.specs.Images.{Contents}
 use Rattle.std.specs.Prelude.{◌+◌, ◌∷◌}
 
 -- the reads that were made, with all their paths joined and all bytes that they returned joined

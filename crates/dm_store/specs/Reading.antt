@@ -1,9 +1,8 @@
 -- What the reader of stores knows while it reads.
-use Rattle.dm_store.specs.Base.{ℕ, Bool, true, not, List, Option, Some, None, Result, Ok, Err, length, nat_lt, IsStore, Description, lower_len, has_room, ListFault, Order, Range, Again, SectorFault, StoreFault, Pair, Store}
+use Rattle.dm_store.specs.Base.{ℕ, Bool, true, not, List, Option, Some, None, Result, Ok, Err, length, nat_lt, IsStore, Description, lower_len, has_room, ListFault, Order, Range, Again, SectorFault, StoreFault, Pair, Store, sector_in}
 use Rattle.dm_store.specs.declared.header.Header.{Header}
 use Rattle.dm_store.specs.declared.header.Header.TheVariants as headers
 use Rattle.dm_store.specs.declared.row_range.RowRange.{RowRange}
-use Rattle.dm_store.specs.Images.{sector_in}
 use Rattle.dm_store.specs.Layout.{row_sector}
 use Rattle.dm_store.specs.Pairs.{Sectors, pair, pair_in, each, old_chunks}
 use Rattle.dm_store.specs.Stored.{Stored, Fresh, Lost, Refused, is_listed, list_fault}

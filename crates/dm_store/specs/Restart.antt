@@ -1,9 +1,7 @@
 -- A restart: power is cut in the midst of requests to top devices, and then the stores are read again.
-use Rattle.dm_store.specs.Base.{ℕ, zero, suc, true, false, List, [], Option, Some, None, Result, Ok, length, AllByRecursion, Transient, ResolvedSnapshot, IsTidy, IsTop, Description, AreExact, HaveSameData, IsAmple, IsOfSnapshot, IsOwnAt, Moment, after_asked, played, take_chunks, Due, State, Taken, lost, none_taken, put, taken_at, snapshot_at, SectorFault, Store}
-use Rattle.dm_map.specs.Prelude.{Asked}
+use Rattle.dm_store.specs.Base.{ℕ, zero, suc, true, false, List, [], Option, Some, None, Result, Ok, length, AllByRecursion, Transient, ResolvedSnapshot, IsTidy, IsTop, Description, AreExact, HaveSameData, IsAmple, IsOfSnapshot, IsOwnAt, Moment, after_asked, played, take_chunks, Due, State, Taken, lost, none_taken, put, taken_at, snapshot_at, SectorFault, Store, Asked, four_at}
 use Rattle.dm_store.specs.Fitting.{IsLostInStore}
 use Rattle.dm_store.specs.Images.{DiskContents}
-use Rattle.dm_store.specs.Numbers.{four_at}
 use Rattle.dm_store.specs.Pairs.{Sectors}
 use Rattle.dm_store.specs.Spelled.{Spells}
 use Rattle.dm_store.specs.Start.{store_at, store_sectors, stored_state}

@@ -1,6 +1,5 @@
 -- A store that spells a list of chunks: a condition on its sectors alone, equivalent to `stored` giving that list.
-use Rattle.dm_store.specs.Base.{ℕ, List, Ok, length, slice_index, Persistent, place, Store}
-use Rattle.dm_store.specs.Numbers.{four_at}
+use Rattle.dm_store.specs.Base.{ℕ, List, Ok, length, slice_index, Persistent, place, Store, four_at}
 use Rattle.dm_store.specs.Fitting.{Fit}
 use Rattle.dm_store.specs.Layout.{row_sector, pair_count, rest_count}
 use Rattle.dm_store.specs.Pairs.{Sectors, pair, pair_in}

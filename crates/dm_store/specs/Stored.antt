@@ -1,6 +1,5 @@
 -- What a store's sectors say: what it holds, or why it is refused (the kernel's dm-snap-persistent).
-use Rattle.dm_store.specs.Base.{ℕ, zero, suc, Bool, false, not, List, Option, Some, None, Result, Ok, Err, is_some, nat_lt, nat_le, Persistent, place, number_in, ListFault, Order, Range, Again, SectorFault, StoreFault, Unread, Magic, Version, Chunk, Gap, Listed, Pair, Store}
-use Rattle.dm_store.specs.Numbers.{four_at}
+use Rattle.dm_store.specs.Base.{ℕ, zero, suc, Bool, false, not, List, Option, Some, None, Result, Ok, Err, is_some, nat_lt, nat_le, Persistent, place, number_in, ListFault, Order, Range, Again, SectorFault, StoreFault, Unread, Magic, Version, Chunk, Gap, Listed, Pair, Store, four_at}
 use Rattle.dm_store.specs.Pairs.{Sectors, pair, pair_in, each, count_of, old_chunks}
 use Rattle.dm_store.specs.Layout.{row_sector, pair_count, rest_count}
 use Rattle.std.specs.Prelude.{◌+◌, ◌/◌, ◌%◌, ◌==◌, ◌||◌, ◌&&◌, if◌then◌else◌}

@@ -1,12 +1,12 @@
 //! Which image file each disk of a stack is in.
 
 ghost use Rattle.dm_store.specs.Prelude.{None, Some, IfNone, IfSome, length, AreRead, Contents, disk_contents, place_of};
-ghost use Rattle.dm_store.specs.declared.images.TheConstants.{MOST_BYTES, SECTOR};
+ghost use Rattle.dm_table.specs.declared.io.sectors.TheConstants.{MOST_BYTES, SECTOR};
 ghost use Rattle.std.specs.Prelude.{◌≡◌, ◌+◌, ◌<◌, ◌≤◌, ◌%◌, ◌^◌};
 
 use crate::fault::SectorFault;
 use crate::image_place::ImagePlace;
-use crate::images::{Images, ReadFault};
+use crate::images::{Images, ReadFault, read_extent};
 use dm_stack::DiskId;
 use std::marker::Model;
 
@@ -63,7 +63,14 @@ impl DiskImages {
         let Some(place) = self.place(disk) else {
             return Err(SectorFault::Missing);
         };
-        match images.read(place.line(), place.path(), place.start() + sector, into) {
+        match read_extent(
+            images,
+            place.line(),
+            place.path(),
+            place.extent(),
+            sector,
+            into,
+        ) {
             Ok(()) => Ok(()),
             Err(ReadFault) => Err(SectorFault::Read),
         }

@@ -1,11 +1,11 @@
 //! The header of an exception store.
 
 ghost use Rattle.dm_store.specs.Prelude.{Ok, length, told_header, Stored, by_header};
-ghost use Rattle.dm_store.specs.declared.images.TheConstants.{SECTOR};
+ghost use Rattle.dm_table.specs.declared.io.sectors.TheConstants.{SECTOR};
 ghost use Rattle.std.specs.Prelude.{◌≡◌};
 
 use crate::fault::StoreFault;
-use crate::numbers::four;
+use dm_table::four_at;
 
 /// The first number of a header: the bytes `SnAp`.
 const MAGIC: u32 = 0x7041_6e53;
@@ -29,20 +29,20 @@ pub(crate) fn read_header(sector: &[u8], chunk: u64) -> Result<Header, StoreFaul
     requires { length sector.now ≡ SECTOR }
     ensures { (used : Stored) → told_header used result ≡ by_header used chunk (Ok sector.now) }
 {
-    let magic = four(sector, 0);
+    let magic = four_at(sector, 0);
     if magic == 0 {
         return Ok(Header::Fresh);
     }
     if magic != MAGIC {
         return Err(StoreFault::Magic);
     }
-    if four(sector, 8) != VERSION {
+    if four_at(sector, 8) != VERSION {
         return Err(StoreFault::Version);
     }
-    if u64::from(four(sector, 12)) != chunk {
+    if u64::from(four_at(sector, 12)) != chunk {
         return Err(StoreFault::Chunk);
     }
-    if four(sector, 4) == 0 {
+    if four_at(sector, 4) == 0 {
         return Ok(Header::Lost);
     }
     Ok(Header::Used)

@@ -58,7 +58,7 @@ fn image_in(alloc: Global, paths: &[DiskPath], name: &str) -> Result<Option<Imag
     match path_of(paths, name) {
         Some(path) => {
             let text = String::from_str(alloc, path.file.as_str())?;
-            Ok(Some(ImagePlace::new(text, path.start.number(), path.at.number)))
+            Ok(Some(ImagePlace::new(text, path.extent, path.at.number)))
         }
         None => Ok(None),
     }

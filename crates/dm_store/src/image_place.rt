@@ -1,39 +1,35 @@
 //! Where in an image file a disk is.
 
 ghost use Rattle.dm_store.specs.Prelude.{string_bytes};
-ghost use Rattle.std.specs.Prelude.{◌≡◌, ◌<◌, ◌^◌};
+ghost use Rattle.std.specs.Prelude.{◌≡◌};
 
+use dm_table::FileExtent;
 use std::marker::Model;
 
-/// An image file with a disk in it: its path, the sector at which the disk starts, and its line in the list of
-/// paths. Contracts see the line, the bytes of the path, and the sector.
+/// An image that has a disk, the sectors of it that the disk has, and the line of its list that names it. A clause
+/// sees the line, the bytes of the path, and the extent.
 #[derive(Debug, Drop)]
 pub struct ImagePlace {
     path: String,
-    start: u64,
+    extent: FileExtent,
     line: u64,
 }
 
 impl Model for ImagePlace {
     ghost use Rattle.dm_store.specs.Base.{string_bytes};
     ghost use Rattle.dm_store.specs.Places.{Place};
-    ghost use Rattle.std.specs.Prelude.{◌<◌, ◌^◌};
 
     ghost Value = { Place };
 
-    ghost view = { λ place. record { line = place.line; path = string_bytes place.path; start = place.start } };
-
-    ghost invariant = { λ place. place.start < 2 ^ 51 };
+    ghost view = { λ place. record { line = place.line; path = string_bytes place.path; extent = place.extent } };
 }
 
 impl ImagePlace {
-    /// A disk in the image at this path, from sector `start` on, given in this line of the list. No memory is
-    /// allocated.
-    pub(crate) fn new(path: String, start: u64, line: u64) -> ImagePlace
-        requires { start < 2 ^ 51 }
-        ensures { result ≡ record { line = line; path = string_bytes path; start = start } }
+    /// An extent of the image at a path, by this line. No memory is taken.
+    pub(crate) fn new(path: String, extent: FileExtent, line: u64) -> ImagePlace
+        ensures { result ≡ record { line = line; path = string_bytes path; extent = extent } }
     {
-        ImagePlace { path, start, line }
+        ImagePlace { path, extent, line }
     }
 
     /// The line of the list of paths that gives the image.
@@ -50,11 +46,10 @@ impl ImagePlace {
         self.path.as_str()
     }
 
-    /// The sector of the image at which the disk starts.
-    pub(crate) fn start(&self) -> u64
-        ensures start { result ≡ self.now.start }
-        ensures near { result < 2 ^ 51 }
+    /// The sectors of the image that the disk has.
+    pub(crate) fn extent(&self) -> FileExtent
+        ensures { result ≡ self.now.extent }
     {
-        self.start
+        self.extent
     }
 }

@@ -4,19 +4,13 @@
 //! those that agree with each of them. If an image returns other bytes for a sector than before, no contents
 //! agree.
 
-ghost use Rattle.dm_store.specs.Base.{length};
-ghost use Rattle.dm_store.specs.Images.{AreRead, Contents};
+ghost use Rattle.dm_store.specs.Base.{AreRead, length};
+ghost use Rattle.dm_store.specs.Images.{Contents, in_extent};
+ghost use Rattle.dm_table.specs.declared.io.sectors.TheConstants.{MOST_BYTES, SECTOR};
 ghost use Rattle.std.specs.Prelude.{◌≡◌, ◌<◌, ◌≤◌, ◌%◌, ◌^◌};
 
-/// The size of a sector in bytes.
-pub const SECTOR: usize = 512;
-
-/// The most bytes in one read.
-pub const MOST_BYTES: usize = 65_536;
-
-/// The image can't be opened or read, or ends before the sectors asked for.
-#[derive(Clone, Copy, Debug, PartialEq, Eq, Drop)]
-pub struct ReadFault;
+use dm_table::FileExtent;
+pub use dm_table::{MOST_BYTES, ReadFault, SECTOR};
 
 /// Gives access to images, each named by its line in a list and its path.
 pub trait Images {
@@ -36,4 +30,30 @@ pub trait Images {
             → AreRead (held line path.now) sector result into.new }
         ensures seen { (held : Contents) → IsSeen self.old held
             → AreRead (held line path.now) sector result into.new → IsSeen self.new held };
+}
+
+/// Reads whole sectors of an extent of an image, from a sector of the extent on: none past its end. After a fault
+/// the slice may hold anything.
+pub fn read_extent<I: Images>(
+    images: &mut I,
+    line: u64,
+    path: &str,
+    extent: FileExtent,
+    sector: u64,
+    into: &mut [u8],
+) -> Result<(), ReadFault>
+    requires whole { length into.old % SECTOR ≡ 0 }
+    requires some { SECTOR ≤ length into.old }
+    requires few { length into.old ≤ MOST_BYTES }
+    requires near { sector ≤ 2 ^ 50 }
+    ensures still { (held : Contents) → I.IsSeen images.new held → I.IsSeen images.old held }
+    ensures is { (held : Contents) → I.IsSeen images.new held
+        → AreRead (in_extent extent (held line path.now)) sector result into.new }
+    ensures seen { (held : Contents) → I.IsSeen images.old held
+        → AreRead (in_extent extent (held line path.now)) sector result into.new → I.IsSeen images.new held }
+{
+    match extent.sector(sector, (into.len() / SECTOR) as u64) {
+        Some(at) => images.read(line, path, at, into),
+        None => Err(ReadFault),
+    }
 }

@@ -4,7 +4,7 @@
 //! `Range`, `Again`, and comes after any fault of the sectors that hold or end the list.
 
 ghost use Rattle.dm_store.specs.Prelude.{List, None, OnOk, is_some, length, true, ℕ, with_looked, number_in, none_taken, put, taken_at, with_chunk, Contents, disk_contents, pair_count, HasRows, IsStoreIn, IsStoreOf, next_fault, told_list, store_sectors, Holds, ended, is_near, is_placed, listed, of_list};
-ghost use Rattle.dm_store.specs.declared.images.TheConstants.{MOST_BYTES};
+ghost use Rattle.dm_table.specs.declared.io.sectors.TheConstants.{MOST_BYTES};
 ghost use Rattle.std.specs.Prelude.{◌≡◌, ◌<◌, ◌^◌};
 
 use crate::disk_images::DiskImages;

@@ -1,7 +1,7 @@
 //! Images in memory for tests, which can fail after a number of reads.
 
 ghost use Rattle.dm_store.specs.Prelude.{OnErr, OnOk, length, slice_range, Contents, AgreesWith};
-ghost use Rattle.dm_store.specs.declared.images.TheConstants.{SECTOR};
+ghost use Rattle.dm_table.specs.declared.io.sectors.TheConstants.{SECTOR};
 ghost use Rattle.std.specs.Prelude.{◌≡◌, ◌+◌, ◌*◌, ◌<◌};
 
 use crate::images::{Images, ReadFault, SECTOR};

@@ -1,10 +1,10 @@
 //! Pairs of a list: a chunk of the snapshot, and the chunk of the store that holds it.
 
 ghost use Rattle.dm_store.specs.Prelude.{length, pair_in, are_zeros};
-ghost use Rattle.dm_store.specs.declared.images.TheConstants.{SECTOR};
+ghost use Rattle.dm_table.specs.declared.io.sectors.TheConstants.{SECTOR};
 ghost use Rattle.std.specs.Prelude.{◌≡◌, ◌<◌};
 
-use crate::numbers::eight;
+use dm_table::eight_at;
 
 /// A chunk of a snapshot (`old`), and the chunk of its store that holds it (`new`).
 #[derive(Clone, Copy, Debug, Drop)]
@@ -33,7 +33,7 @@ pub(crate) fn pair_at(sector: &[u8], index: usize) -> Pair
     ensures { result ≡ pair_in sector.now index }
 {
     Pair {
-        old: eight(sector, 16 * index),
-        new: eight(sector, 16 * index + 8),
+        old: eight_at(sector, 16 * index),
+        new: eight_at(sector, 16 * index + 8),
     }
 }

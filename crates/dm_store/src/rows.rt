@@ -4,7 +4,7 @@
 //! read one by one, up to the first that can't be read.
 
 ghost use Rattle.dm_store.specs.Prelude.{ℕ, Err, Ok, IfErr, IfOk, OnOk, length, with_looked, GoOn, home, Description, Contents, disk_contents, sector_in, area_count, pair_count, row_sector, HasRead, HasRows, IsRowOf, IsStoreIn, store_sectors};
-ghost use Rattle.dm_store.specs.declared.images.TheConstants.{MOST_BYTES};
+ghost use Rattle.dm_table.specs.declared.io.sectors.TheConstants.{MOST_BYTES};
 ghost use Rattle.std.specs.Prelude.{◌≡◌, ◌+◌, ◌*◌, ◌/◌, ◌%◌, ◌<◌, ◌≤◌, ◌^◌};
 
 use crate::disk_images::DiskImages;

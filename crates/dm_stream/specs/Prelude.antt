@@ -1,12 +1,7 @@
 -- Names that contracts cite, here and in crates above, re-exported from one place.
-pub use Rattle.dm_map.specs.Prelude.{disk_unit, with_looked}
-pub use Rattle.dm_stack.specs.Prelude.{IsSound, LiesOnDisk}
-pub use Rattle.dm_stream.specs.Base.{BlockUnit, CopyOf, Description, FillOf, HasWritten, HasWrittenTo, IfErr, IfOk, IsClosedAfter, IsOnDisk, IsOnDisks, IsPut, IsReadOn, List, MetNothing, None, Ok, OnOk, OutputPast, Some, [], code, decimal, delivery, device_len, disk_name_at, diskless_len, drop, false, first_unit, length, map, name_at, parts_at, piece_len, refl, since, slice_range, take, units_in, units_of, written_since, written_to_more, written_to_none, ℕ, ◌∙◌}
+pub use Rattle.dm_stream.specs.Base.{BadRequest, BlockUnit, CopyOf, Description, Done, Ending, FillOf, HasRead, HasWritten, HasWrittenTo, InputPast, IsClosedAfter, IsOnDisk, IsOnDisks, IsPut, IsReadOn, IsSameReference, IsSound, LiesOnDisk, Long, MapperView, MetNothing, NotMapped, Option, OutputPast, ReadFault, RequestWord, Stand, State, Unended, Unknown, WriteFault, Wrote, after_read, ap, append_assoc, code, delivery, device_len, disk_name_at, disk_unit, diskless_len, fault_of, first_unit, given, name_at, parts_at, piece_len, refl, since, since-same, since_more, sym, units_in, units_of, with_looked, written_since, written_to_more, written_to_none, ◌∙◌}
 pub use Rattle.dm_stream.specs.declared.pieces.disk_range.DiskRange.{DiskRange}
 pub use Rattle.dm_stream.specs.declared.requests.front.Front.{Front}
-pub use Rattle.dm_stream.specs.declared.runs.earlier.EarlierFault.{EarlierFault}
-pub use Rattle.dm_stream.specs.declared.runs.ending.Ending.{Ending}
-pub use Rattle.dm_stream.specs.declared.runs.ending.Ending.TheVariants.{Done, WriteFault}
 pub use Rattle.dm_stream.specs.laws.Join.{beginning-before, join_lawful, last_of_units, onto_begins, some_before}
 pub use Rattle.dm_stream.specs.pieces.DiskText.{disk_text, line_head}
 pub use Rattle.dm_stream.specs.pieces.Join.{HasLeft, HasTaken, HasUnits, join_past}
@@ -22,8 +17,7 @@ pub use Rattle.dm_stream.specs.requests.Requests.{HasMet, IsAmong, NumberedReque
 pub use Rattle.dm_stream.specs.runs.Earlier.{HasMoved, HasPlayed, HasStoppedAt, played_ending, refused_ending}
 pub use Rattle.dm_stream.specs.runs.Mapped.{HasAnswered, HasStopped, IsReady, failed_writes}
 pub use Rattle.dm_stream.specs.runs.Messages.{HasTold, IsTold, earlier_message, ending_message, refused_request, request_word, told_at_close, write_message}
-pub use Rattle.dm_stream.specs.runs.Outcome.{Outcome, device_of, if_done, outcome_from, request_answer, requests_outcome, run_outcome, step_of, with_status}
+pub use Rattle.dm_stream.specs.runs.Outcome.{Outcome, after_text, device_of, if_done, outcome_from, request_answer, requests_outcome, run_outcome, step_of, with_status}
 pub use Rattle.dm_stream.specs.runs.Run.{CanMap, HasMappedAll, HasRun, IsLeft, IsMapped, ending_for, write_faults}
 pub use Rattle.dm_stream.specs.runs.StatusLines.{after_name, status_line, status_text, usage_text}
-pub use Rattle.dm_table.specs.Prelude.{HasRead, IsSameReference, Wrote, fault_of, given}
-pub use Rattle.dm_table.specs.Std.{All, IfSome, IsErr, MatchOption, OnErr, OnFalse, OnTrue, not, sem}
+pub use Rattle.dm_table.specs.Std.{All, Bor, IfErr, IfOk, IfSome, IsErr, List, MatchOption, None, Ok, OnErr, OnFalse, OnOk, OnTrue, Some, [], before_first, decimal, drop, false, is_ok, length, map, not, sem, slice_range, take, ℕ}

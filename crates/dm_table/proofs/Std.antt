@@ -1,5 +1,7 @@
 -- The names and lemmas from std that proofs use, in this crate and in crates above, in one place.
-pub use Rattle.std.proofs.Common.{All, Bool, Bor, Err, Global, IfErr, IfOk, IfSome, IsErr, IsErrAnd, Less, List, MatchOption, None, Ok, OnErr, OnOk, Option, Result, Some, String, Vec, [], add-mul, add-one, add-zero, ap, append_assoc, ap₂, arith, below_more, bit_and, bytes_eq, codes, cond, count_by, count_ones, decimal, drop, drop-cons, eqb, false, filter, fold, get_or, get_or-set_other, get_or-set_same, if◌then◌else◌, inl, inr, is_some, length, length-append, length-drop, length-set, length-take, length-take-le, ltb, map, max, min, mul-le-mul_right, mul_assoc, nat_eq, nat_le, nat_lt, not, option_map, pos_of_ne-zero, pow_mono, pow_pos, refl, replicate, rules, set, slice_get, slice_index, slice_index_or, slice_range, subst, suc, sym, take, take-append-drop, take_all, tests, true, true≢false, unwrap_or, vec_capacity, vec_len, w64, w8, zero, zero-add, ℕ, ◌%◌, ◌&&◌, ◌*◌, ◌+◌, ◌++◌, ◌-◌, ◌/◌, ◌<◌, ◌==◌, ◌^◌, ◌||◌, ◌↔◌, ◌∙◌, ◌∷◌, ◌≡◌, ◌≢◌, ◌≤◌, ◌⊎◌}
+pub use Rattle.dm_table.specs.Std.{AllBelowBase, AllByRecursion, AllPairs, Any, BTreeMap, Contains, FindsText, FnReturns, FnReturnsAt, HasTextAt, IsInRange, IsNonDecreasingBy, IsOrdered, IsPermutation, IsUtf8, LacksTextAt, SplitsAroundMatch, Updates, after_first, before_first, bit_at, cons_option, digit_value, digits_value, enumerate_from, flat_map, from_le_bytes, get, get_by, is_ascii_digit, is_at, is_gt, is_power_of_two, iter_rest, join_with_byte, list_all, list_any, nat_cmp, number_from_digits, number_from_digits_after, ones-ones, onto_first, option_map_or, option_to_list, pointwise, position_from, position_or_len, prefix_len, range_with_len, result_err, slice_cmp, sum_by, swap, trailing_zeros, zip, zip_first, zip_second}
+unfoldable pub use Rattle.dm_table.specs.Std.{IsDistinct, is_utf8}
+pub use Rattle.std.proofs.Common.{All, Bool, Bor, Err, Global, IfErr, IfOk, IfSome, IsErr, IsErrAnd, Less, List, MatchOption, None, Ok, OnErr, OnOk, Option, Result, Some, String, Vec, [], add-mul, add-one, add-zero, ap, append_assoc, ap₂, arith, below_more, bit_and, bytes_eq, codes, cond, count_by, count_ones, decimal, drop, drop-cons, eqb, false, filter, fold, get_or, get_or-set_other, get_or-set_same, inl, inr, is_some, length, length-append, length-drop, length-set, length-take, length-take-le, ltb, map, max, min, mul-le-mul_right, mul_assoc, nat_eq, nat_le, nat_lt, not, option_map, pos_of_ne-zero, pow_mono, pow_pos, refl, replicate, rules, set, slice_get, slice_index, slice_index_or, slice_range, subst, suc, sym, take, take-append-drop, take_all, tests, true, true≢false, unwrap_or, vec_capacity, vec_len, w64, w8, zero, zero-add, ℕ, ◌∙◌}
 pub use Rattle.std.proofs.Math.Bool.{and-false, and-true, and_assoc, and_comm, or-false}
 pub use Rattle.std.proofs.Math.Dec.{eqb-suc-zero, leb-suc-suc, leb-suc-zero}
 pub use Rattle.std.proofs.Math.Logic.{∥∥₁_elim, ∥∥₁_map}
@@ -30,24 +32,7 @@ pub use Rattle.std.proofs.lemmas.Simd.{bitmask_splat, get_or-chunk, leading_from
 pub use Rattle.std.proofs.lemmas.Slice.Eq.{bytes_eq-Decides, slice_eq-Decides, starts_is}
 pub use Rattle.std.proofs.lemmas.Slice.Zip.{either_empty_from_Zip}
 pub use Rattle.std.proofs.lemmas.Str.{IsUtf8-from_ascii, IsUtf8-from_is_utf8, IsUtf8-nil, digit_value_digit, is_utf8-from_IsUtf8}
-pub use Rattle.std.proofs.lemmas.Str.Parse.{IsNumeralModel, digit_at, digits_value-take-le, digits_value_short, numerals_by_value}
+pub use Rattle.std.proofs.lemmas.Str.Parse.{IsNumeralModel, digits_value_short, numerals_by_value}
 pub use Rattle.std.proofs.raw_atomic.Walks.{proved}
-pub use Rattle.std.specs.BTreeMap.{BTreeMap, IsOrdered, Updates, get, get_by, is_at}
-pub use Rattle.std.specs.Char.{digit_value, is_ascii_digit}
-pub use Rattle.std.specs.Cmp.Lexicographic.{pointwise, slice_cmp}
-pub use Rattle.std.specs.Fn.{FnReturns, FnReturnsAt}
-pub use Rattle.std.specs.Int.{IsInRange, bit_at, from_le_bytes, is_power_of_two, trailing_zeros}
 pub use Rattle.std.specs.Int.Bits.{bit_xor}
-pub use Rattle.std.specs.Int.Digits.{AllBelowBase, number_from_digits, number_from_digits_after}
-pub use Rattle.std.specs.Iterator.Adapters.{zip_first, zip_second}
-pub use Rattle.std.specs.List.{AllByRecursion, AllPairs, Contains, after_first, before_first, cons_option, enumerate_from, flat_map, insert, join_with_byte, list_all, list_any, onto_first, position_from, position_or_len, prefix_len, range_with_len, sum_by, swap, zip}
-unfoldable pub use Rattle.std.specs.List.{IsDistinct}
-pub use Rattle.std.specs.List.Sorted.{IsNonDecreasingBy, IsPermutation}
-pub use Rattle.std.specs.Option.{option_map_or, option_to_list}
-pub use Rattle.std.specs.Ordering.{is_gt, nat_cmp}
 pub use Rattle.std.specs.Prelude.{IfNone, IsSome, IsTrue, MatchResult, bit_or, find, is_none, is_ok, option_and_then, position, slice_set, string_bytes}
-pub use Rattle.std.specs.Result.{result_err}
-pub use Rattle.std.specs.Slice.Iter.{iter_rest}
-pub use Rattle.std.specs.Str.{IsUtf8}
-unfoldable pub use Rattle.std.specs.Str.{is_utf8}
-pub use Rattle.std.specs.Str.Pattern.{FindsText, HasTextAt, LacksTextAt, SplitsAroundMatch}

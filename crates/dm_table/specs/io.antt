@@ -2,6 +2,8 @@
 pub mod Block
 pub mod DeviceIo
 pub mod Gathered
+pub mod LittleEndian
 pub mod Progress
+pub mod Sectors
 pub mod ShortIo
 pub mod WriteAll

@@ -3,6 +3,7 @@ pub mod CanonicalText
 pub mod ConciseReading
 pub mod ConciseText
 pub mod DiskList
+pub mod Extent
 pub mod LineBody
 pub mod LineHead
 pub mod LineReading

@@ -10,6 +10,8 @@ pub mod counted;
 pub mod device_io;
 pub mod gathered;
 pub mod ghost_list;
+pub mod little_endian;
+pub mod sectors;
 pub mod short_io;
 pub mod text;
 pub mod writing;

@@ -1,7 +1,6 @@
 -- How a run begins: it is refused before any earlier requests, or plays them.
-use Rattle.dmremap.proofs.Prelude.{arith, Option, Some, None, Result, Ok, Err, sym, subst, IfErr, IsErrAnd, err_from_is_err_and, Delivery, InputPast, Description, State, EarlierFault, Ending, refused_ending, Refusal, IsOutOfMemory, IsBegunAt, ArePlayedIf, ArePlayedOver, Begins, Start, earlier_from}
+use Rattle.dmremap.proofs.Prelude.{arith, Option, Some, None, Result, Ok, Err, sym, subst, IfErr, IsErrAnd, err_from_is_err_and, Delivery, InputPast, Description, State, EarlierFault, Ending, refused_ending, Refusal, IsOutOfMemory, IsBegunAt, ArePlayedIf, ArePlayedOver, Begins, Start, earlier_from, Done}
 use Rattle.dm_stream.specs.declared.runs.earlier.EarlierFault.TheVariants as earlier
-use Rattle.dm_stream.specs.declared.runs.ending.Ending.TheVariants as endings
 use Rattle.dmremap.specs.declared.exit.Refusal.TheVariants as refusals
 use Rattle.std.specs.Prelude.{◌≡◌}
 
@@ -20,7 +19,7 @@ out_begun stack before start (refusals.Earlier fault) memory = absurd (omega (ar
 out_begun stack before start why memory = λ other. absurd (other memory)
 
 -- refused earlier requests don't end as done; below, a refusal without earlier requests is one with them, too
-pub never_done : (fault : EarlierFault) → Some endings.Done ≡ Some (refused_ending fault) → ⊥
+pub never_done : (fault : EarlierFault) → Some Done ≡ Some (refused_ending fault) → ⊥
 never_done (earlier.BadRequest number word) is = cc
 never_done earlier.Read is = cc
 

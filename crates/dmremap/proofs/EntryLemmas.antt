@@ -1,5 +1,5 @@
 -- The entries of the manual that fit, written one after the other.
-use Rattle.dmremap.proofs.Prelude.{◌∙◌, ℕ, Bool, true, false, List, [], length, map, take, drop, get_or, Ok, Err, append_assoc, cond, ap, refl, sym, take-append-drop, append-nil, get_or-map, length-map, map-append, filter-append, filter, join_with_byte, OutputPast, Wrote, and_then, stopped, Entry, texts_of}
+use Rattle.dmremap.proofs.Prelude.{◌∙◌, ℕ, Bool, true, false, List, [], length, map, take, drop, get_or, Ok, Err, append_assoc, ap, refl, sym, take-append-drop, append-nil, get_or-map, length-map, map-append, filter-append, filter, join_with_byte, OutputPast, Wrote, and_then, stopped, Entry, texts_of}
 use Rattle.std.proofs.lemmas.List.Elements.{filter_more}
 use Rattle.std.specs.Prelude.{◌≡◌, ◌++◌, ◌<◌, ◌+◌, ◌∷◌}
 

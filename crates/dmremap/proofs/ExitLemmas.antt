@@ -1,12 +1,11 @@
 -- What the exit of a command implies for its status and its streams.
-use Rattle.dmremap.proofs.Prelude.{true, false, ℕ, List, Result, Ok, Err, IsErr, OnErr, OnOk, inl, inr, refl, sym, ap, subst, ◌∙◌, arith, LoadKind, InputPast, OutputPast, written_since, HasWritten, IsClosedAfter, IsFinished, IsReadOn, Wrote, finished_as, grows-same, written_none, Ending, HasMet, NameFault, Exit, Refusal, ending_status, exit_message, exit_status, failed_writes, is_flushed, is_refused, load_status, name_status, refusal_status, AskedBy, EndsAs, Exits, IsClosedAs, MessagesTold, OutputWritten, RequestsRead}
+use Rattle.dmremap.proofs.Prelude.{true, false, ℕ, List, Result, Ok, Err, IsErr, OnErr, OnOk, inl, inr, refl, sym, ap, subst, ◌∙◌, arith, LoadKind, InputPast, OutputPast, written_since, HasWritten, IsClosedAfter, IsFinished, IsReadOn, Wrote, finished_as, grows-same, written_none, Ending, HasMet, NameFault, Exit, Refusal, ending_status, exit_message, exit_status, failed_writes, is_flushed, is_refused, load_status, name_status, refusal_status, AskedBy, EndsAs, Exits, IsClosedAs, MessagesTold, OutputWritten, RequestsRead, STATUS_BAD_REQUEST, STATUS_DONE, STATUS_MEMORY, STATUS_READ_FAULT, STATUS_REFUSED, STATUS_WRITE_FAULT}
 use Rattle.dm_table.specs.declared.load.load_fault.LoadKind.TheVariants as kinds
 use Rattle.dm_stream.specs.declared.runs.ending.Ending.TheVariants as endings
 use Rattle.dm_stream.specs.declared.runs.ending.RequestWord.TheVariants as words
 use Rattle.lvm_volume.specs.declared.fault.NameFault.TheVariants as names
 use Rattle.dmremap.specs.declared.exit.Exit.TheVariants as exits
 use Rattle.dmremap.specs.declared.exit.Refusal.TheVariants as refusals
-use Rattle.dmremap.specs.declared.status.TheConstants.{STATUS_BAD_REQUEST, STATUS_DONE, STATUS_MEMORY, STATUS_READ_FAULT, STATUS_REFUSED, STATUS_WRITE_FAULT}
 use Rattle.std.specs.Prelude.{◌≡◌, ◌≢◌, ◌≤◌, ◌⊎◌, ◌+◌}
 
 -- ---- the status

@@ -1,37 +1,16 @@
 -- The sectors of a listed disk, as reads of its image give them.
-use Rattle.dmremap.proofs.Prelude.{◌∙◌, ℕ, List, Some, Result, Ok, Err, arith, length, slice_get, refl, sym, ap, DiskPath, Contents, AreRead, listed_disks, on_disk}
-use Rattle.dm_store.specs.declared.images.ReadFault.{ReadFault}
-use Rattle.dm_store.specs.Images.{AreRead as AreImagesRead}
-use Rattle.lvm_head.specs.declared.disks.ReadFault.{ReadFault as HeadReadFault}
-use Rattle.std.specs.Prelude.{◌≡◌, ◌+◌, ◌*◌, ◌<◌}
+use Rattle.dmremap.proofs.Prelude.{◌∙◌, ℕ, List, Some, Result, Ok, Err, slice_get, refl, sym, DiskPath, Contents, in_extent, AreRead, ReadFault, listed_disks}
+use Rattle.std.specs.Prelude.{◌≡◌, ◌+◌, ◌↔◌}
 
-here : (held : Contents) (paths : List DiskPath) (path : DiskPath) (disk sector from : ℕ) → slice_get paths disk ≡ Some path → from ≡ path.start + sector → listed_disks paths held disk sector ≡ on_disk (held path.at.number path.file from)
-here held paths path disk sector from is at = rw (is, at) refl
+here : (held : Contents) (paths : List DiskPath) (path : DiskPath) (disk sector : ℕ) → slice_get paths disk ≡ Some path → listed_disks paths held disk sector ≡ in_extent path.extent (held path.at.number path.file) sector
+here held paths path disk sector is = rw is refl
 
-held_ok : (found : Result (List ℕ) ReadFault) (bytes : List ℕ) → on_disk found ≡ Ok bytes → found ≡ Ok bytes
-held_ok (Ok found) bytes is = let same : found ≡ bytes = cc in ap Ok same
-held_ok (Err fault) bytes is = absurd cc
-
-held_fault : (found : Result (List ℕ) ReadFault) (fault : ReadFault) (said : HeadReadFault) → on_disk found ≡ Err said → found ≡ Err fault
-held_fault (Ok found) fault said is = absurd cc
-held_fault (Err found) fault said is = refl
-
--- what a read of the image gives is what the disk holds
-pub read_there : (held : Contents) (paths : List DiskPath) (path : DiskPath) (disk sector from : ℕ) (bytes : List ℕ) → slice_get paths disk ≡ Some path → from ≡ path.start + sector
-    → AreImagesRead (held path.at.number path.file) from (Ok tt) bytes → AreRead (listed_disks paths held disk) sector (Ok tt) bytes
-read_there held paths path disk sector from bytes is at read = λ i below.
-    here held paths path disk (sector + i) (from + i) is (omega (arith, at)) ∙ ap on_disk (read i below)
-
-pub unread_there : (held : Contents) (paths : List DiskPath) (path : DiskPath) (disk sector from : ℕ) (bytes : List ℕ) (fault : ReadFault) (said : HeadReadFault) → slice_get paths disk ≡ Some path → from ≡ path.start + sector
-    → AreImagesRead (held path.at.number path.file) from (Err fault) bytes → AreRead (listed_disks paths held disk) sector (Err said) bytes
-unread_there held paths path disk sector from bytes fault said is at unread = λ len. here held paths path disk sector from is at ∙ ap on_disk (unread len)
-
--- what a read of the disk gave is what the image holds
-pub asked_there : (held : Contents) (paths : List DiskPath) (path : DiskPath) (disk sector from : ℕ) (bytes : List ℕ) → slice_get paths disk ≡ Some path → from ≡ path.start + sector
-    → AreRead (listed_disks paths held disk) sector (Ok tt) bytes → AreImagesRead (held path.at.number path.file) from (Ok tt) bytes
-asked_there held paths path disk sector from bytes is at read = λ i below.
-    held_ok (held path.at.number path.file (from + i)) _ (sym (here held paths path disk (sector + i) (from + i) is (omega (arith, at))) ∙ read i below)
-
-pub failed_there : (held : Contents) (paths : List DiskPath) (path : DiskPath) (disk sector from : ℕ) (bytes : List ℕ) (fault : ReadFault) (said : HeadReadFault) → slice_get paths disk ≡ Some path → from ≡ path.start + sector
-    → AreRead (listed_disks paths held disk) sector (Err said) bytes → AreImagesRead (held path.at.number path.file) from (Err fault) bytes
-failed_there held paths path disk sector from bytes fault said is at unread = λ len. held_fault (held path.at.number path.file from) fault said (sym (here held paths path disk sector from is at) ∙ unread len)
+-- what is read of an image is what the disk holds, and what the disk holds is what is read of the image
+pub read_there : (sectors : ℕ → Result (List ℕ) ReadFault) (held : Contents) (paths : List DiskPath) (path : DiskPath) (disk sector : ℕ) (result : Result (Unit {0}) ReadFault) (bytes : List ℕ)
+    → ((at : ℕ) → sectors at ≡ listed_disks paths held disk at) → slice_get paths disk ≡ Some path → AreRead (in_extent path.extent (held path.at.number path.file)) sector result bytes ↔ AreRead sectors sector result bytes
+read_there sectors held paths path disk sector (Ok done) bytes same is =
+    let each : (i : ℕ) → sectors (sector + i) ≡ in_extent path.extent (held path.at.number path.file) (sector + i) = λ i. same (sector + i) ∙ here held paths path disk (sector + i) is in
+    (λ read i below. each i ∙ read i below, λ read i below. sym (each i) ∙ read i below)
+read_there sectors held paths path disk sector (Err fault) bytes same is =
+    let first = same sector ∙ here held paths path disk sector is in
+    (λ unread len. first ∙ unread len, λ unread len. sym first ∙ unread len)

@@ -1,6 +1,5 @@
 -- Where a mark is in a text: what `split_once` says agrees with the definition `cut_at`.
-use Rattle.dmremap.proofs.Prelude.{zero, suc, ◌∙◌, ℕ, Bool, true, false, [], length, take, drop, Option, Some, None, option_map, ap, ap₂, arith, refl, sym, drop_at, take_at, length-append, length-drop, take-append-drop, bytes_eq-Decides, Bor, MatchOption, bytes_eq, FindsText, LacksTextAt, SplitsAroundMatch, cut_at}
-use Rattle.clap.specs.Words.{Text}
+use Rattle.dmremap.proofs.Prelude.{zero, suc, ◌∙◌, ℕ, Bool, true, false, [], length, take, drop, Option, Some, None, option_map, ap, ap₂, arith, refl, sym, drop_at, take_at, length-append, length-drop, take-append-drop, bytes_eq-Decides, Bor, MatchOption, bytes_eq, FindsText, LacksTextAt, SplitsAroundMatch, cut_at, Text}
 use Rattle.std.specs.Prelude.{◌≡◌, ◌++◌, ◌<◌, ◌≤◌, ◌+◌, ◌∷◌}
 
 -- the text doesn't begin with the mark

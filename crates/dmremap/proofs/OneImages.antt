@@ -1,6 +1,5 @@
 -- What PATHS delivered opens at most one thing, for given contents of images.
-use Rattle.dmremap.proofs.Prelude.{List, Option, Some, None, Result, Ok, Err, sym, ap, ◌∙◌, LoadFault, Paths, DiskPath, Delivery, part_read, Description, described, never_both, Contents, HeadRefusal, AllSaid, OwnedFault, HeadsOpen, ImagesOpen, OpensBy, SaidOpens, StackGives, ended_by, list_in, listed_disks, owners_of, Load, RefusedBy, SoundAs, Loaded, Opening, Stops}
-use Rattle.dm_stack.proofs.OneFault.{one_fault as one_refusal}
+use Rattle.dmremap.proofs.Prelude.{List, Option, Some, None, Result, Ok, Err, sym, ap, ◌∙◌, LoadFault, Paths, DiskPath, Delivery, part_read, Description, described, never_both, Contents, HeadRefusal, AllSaid, OwnedFault, HeadsOpen, ImagesOpen, OpensBy, SaidOpens, StackGives, ended_by, list_in, listed_disks, owners_of, Load, RefusedBy, SoundAs, Loaded, Opening, Stops, one_fault as one_refusal}
 use Rattle.lvm_volume.proofs.OwnedLemmas.{gives_one}
 use Rattle.lvm_volume.specs.declared.owned_metadata.OwnedFault.TheVariants as owned
 use Rattle.lvm_volume.specs.OwnedMetadata.{Tables}

@@ -1,12 +1,10 @@
 -- Words and deliveries determine one answer, unless the output failed or memory ran out.
-use Rattle.dmremap.proofs.Prelude.{true, false, ℕ, List, [], Option, Some, None, refl, sym, ap, subst, ◌∙◌, AllByRecursion, Delivery, IsClash, IsTidy, claims, Description, State, Ending, NumberedRequest, Requests, requests_of, Asked, HasTop, runs_text, spaced, Exit, Answer, End, IsOne, IsOneSettled, IsSettled, Tells, Writes, end_of, IsPlain, is_flushed, JobWords, RangeWords, print_words, check_words, read_words, replay_words, name_words, split_words, explain_words, Opened, Opening, JobAnswers, JobMakes, has_requests, is_loading, Prints, Refuses, ReportSays, Said, SaidBy, SplitSays, answer_said, line, ReplaysOver, ReplaysStack, Start, AreAnswered, IsAnswer, IsOfNone, IsPlayed, IsWhole, StopsAt, asked_of}
+use Rattle.dmremap.proofs.Prelude.{true, false, ℕ, List, [], Option, Some, None, refl, sym, ap, subst, ◌∙◌, AllByRecursion, Delivery, IsClash, IsTidy, claims, Description, State, Ending, NumberedRequest, Requests, requests_of, Asked, HasTop, runs_text, spaced, Exit, Answer, End, IsOne, IsOneSettled, IsSettled, Tells, Writes, end_of, IsPlain, is_flushed, JobWords, RangeWords, print_words, check_words, read_words, replay_words, name_words, split_words, explain_words, Opened, Opening, JobAnswers, JobMakes, has_requests, is_loading, Prints, Refuses, ReportSays, Said, SaidBy, SplitSays, answer_said, line, ReplaysOver, ReplaysStack, Start, AreAnswered, IsAnswer, IsOfNone, IsPlayed, IsWhole, StopsAt, asked_of, STATUS_MEMORY, WriteFault}
 use Rattle.dm_stack.specs.declared.claims.clash.Clash.{Clash}
 use Rattle.dm_stack.proofs.TopLemmas.{one_clash, one_report}
-use Rattle.dm_stream.specs.declared.runs.ending.Ending.TheVariants as endings
 use Rattle.dm_replay.proofs.OneRuns.{one_runs}
 use Rattle.lvm_volume.proofs.Splits.{one_split}
 use Rattle.dmremap.specs.declared.exit.Exit.TheVariants as exits
-use Rattle.dmremap.specs.declared.status.TheConstants.{STATUS_MEMORY}
 use Rattle.dmremap.specs.Whole as start
 use Rattle.dmremap.proofs.ExitLemmas.{write_fault_is}
 use Rattle.dmremap.proofs.OneWhole.{one_opened}
@@ -86,7 +84,7 @@ one_end : (stack : Description) (start : State) (requests : Requests) (a b : Exi
 one_end stack start requests a b x y plain plain' is is' = go a b plain plain' is is'
   where
     ran : (e : Ending) (text : List ℕ) → IsPlain (exits.Ended e) → IsPlayed stack start requests text (exits.Ended e) → IsWhole stack start requests text e
-    ran endings.WriteFault text plain is = absurd (plain.0 refl)
+    ran WriteFault text plain is = absurd (plain.0 refl)
     ran e text plain is = is
 
     go : (a b : Exit) → IsPlain a → IsPlain b → IsPlayed stack start requests x a → IsPlayed stack start requests y b → (a ≡ b) × (x ≡ y)

@@ -1,12 +1,11 @@
 -- What is delivered determines one run: texts describe at most one stack, and none if a check of them finds a fault.
-use Rattle.dmremap.proofs.Prelude.{inl, inr, Bool, ℕ, List, [], Option, Some, None, sym, ap, subst, ◌∙◌, DeviceSpec, Disk, Source, Disks, LoadFault, first_fault, disk_checks, Delivery, PartRead, TextOf, Unread, part_read, Format, Lvm, Tables, TableForm, Description, IsSound, never_both, Load, RefusedBy, SoundAs, Describes, DescribesDevices, DescribesGroupAs, device_checks, GivesFault, MetadataGives, MetadataPartGives, TextsGive, TextPartsGive, PartsGive, Answer, IsOne, Loaded, Opened, Opening, OpeningMakes, PartsOpen, Stops, Maps, MapsOver, Start}
+use Rattle.dmremap.proofs.Prelude.{inl, inr, Bool, ℕ, List, [], Option, Some, None, sym, ap, subst, ◌∙◌, DeviceSpec, Disk, Source, Disks, LoadFault, first_fault, disk_checks, Delivery, PartRead, TextOf, Unread, part_read, Format, Lvm, Tables, TableForm, Description, IsSound, never_both, Load, RefusedBy, SoundAs, Describes, DescribesDevices, DescribesGroupAs, device_checks, GivesFault, MetadataGives, MetadataPartGives, TextsGive, TextPartsGive, PartsGive, Answer, IsOne, Loaded, Opened, Opening, OpeningMakes, PartsOpen, Stops, Maps, MapsOver, Start, one_fault as one_refusal}
 use Rattle.dm_table.proofs.FaultLemmas.{first_or-none}
 use Rattle.dm_table.proofs.ConciseDescribed.{again as again_concise}
 use Rattle.dm_table.proofs.TableDescribed.{again}
 use Rattle.dm_table.proofs.DiskLemmas.{again as again_disks, DescribesDisks-unique}
 use Rattle.dm_table.specs.load.PartInput.{Refuses}
 use Rattle.dmremap.specs.declared.job.TableForm.TheVariants.{Concise, Table}
-use Rattle.dm_stack.proofs.OneFault.{one_fault as one_refusal}
 use Rattle.lvm_volume.proofs.OneGroup.{never_refused, one_group, one_refusal as one_text_refusal}
 use Rattle.std.specs.Prelude.{◌≡◌, ◌∷◌, ◌++◌}
 

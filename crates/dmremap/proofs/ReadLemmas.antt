@@ -1,17 +1,12 @@
 -- What `read` answers: it depends on what was written of a reading and on how the run began.
-use Rattle.dmremap.proofs.Prelude.{Bool, true, false, ℕ, List, Option, Some, None, Result, Ok, Err, inl, inr, refl, sym, ap, subst, ◌∙◌, ap₂, arith, le-leb, lt-leb, option_map_or, IfErr, IfOk, codes, option_and_then, position, unwrap_or, digits_value, LoadFault, Paths, DiskPath, Delivery, InputPast, fault_of, part_read, Description, device_len, is_same, State, images_of, DiskContents, Place, IsWritten, Reading, bytes_of, device_bytes, Answer, Tells, Writes, end_of, Exit, Refusal, Does, exit_status, failed_writes, refusal_status, list_in, delivered_if, JobWords, RangeWords, AreSettled, answer_from, count_in, extent_at, extent_of, places_in, reading_answer, stop_exit, within, written_exit, AreImagesAsked, IsBegunAt, AskedBy, Begins, Start, last_of, number_of, range_at, range_job, read_job, sectors_parser}
-use Rattle.std.specs.Prelude.{◌≡◌, ◌≢◌, ◌⊎◌, ◌+◌, ◌-◌, ◌<◌, ◌≤◌, ◌^◌}
+use Rattle.dmremap.proofs.Prelude.{Bool, true, false, ℕ, List, Option, Some, None, Result, Ok, Err, inl, inr, refl, sym, ap, subst, ◌∙◌, ap₂, arith, IfErr, IfOk, codes, option_and_then, digits_value, LoadFault, Paths, DiskPath, Delivery, InputPast, fault_of, part_read, Description, State, images_of, DiskContents, Place, IsWritten, Reading, bytes_of, device_bytes, Tells, Writes, end_of, Exit, Refusal, Does, exit_status, failed_writes, refusal_status, list_in, delivered_if, JobWords, RangeWords, AreSettled, answer_from, places_in, reading_answer, stop_exit, written_exit, AreImagesAsked, IsBegunAt, AskedBy, Begins, Start, last_of, number_of, range_at, range_job, read_job, sectors_parser, Memory, Row, Text, first_of, STATUS_MEMORY, Refused}
+use Rattle.std.specs.Prelude.{◌≡◌, ◌≢◌, ◌-◌, ◌<◌, ◌^◌}
 use Rattle.std.specs.Str.Parse.{IsNumeral, without_leading_plus}
-use Rattle.dm_table.specs.declared.load.load_fault.LoadKind.TheVariants.{Memory}
-use Rattle.dm_stream.specs.declared.runs.ending.Ending.TheVariants as endings
 use Rattle.dm_read.specs.declared.fault.Stop.{Stop}
 use Rattle.clap.proofs.ValueTestLemmas.{Accepts-accepts, accepts-Accepts}
 use Rattle.clap.specs.ValueTests.{accepts}
-use Rattle.clap.specs.Words.{Row, Text, first_of}
-use Rattle.dmremap.specs.declared.exit.Exit.TheVariants as exits
 use Rattle.dmremap.specs.declared.exit.Refusal.TheVariants as refusals
 use Rattle.dmremap.specs.declared.read_run.Extent.{Extent}
-use Rattle.dmremap.specs.declared.status.TheConstants.{STATUS_MEMORY}
 use Rattle.dmremap.proofs.AnswerLemmas.{end_refused}
 use Rattle.dmremap.proofs.BegunLemmas.{never_done}
 use Rattle.dmremap.proofs.ExitLemmas.{read_on_none}
@@ -34,7 +29,7 @@ read_does start stack other state reached disks extent written text exit begins 
     rw (begins, is) (reading_does (bytes_of (device_bytes stack state disks extent.device) extent.start extent.len) text written (rw (same, reaches) at wrote))
 
 -- a run that doesn't begin answers with its refusal
-pub unbegun_reads : (start : Start) (stack : Description) (disks : DiskContents) (extent : Extent) (refusal : Refusal) → IsBegunAt stack None start (Err refusal) → refusal_status refusal ≢ STATUS_MEMORY → answer_from start stack disks extent ≡ Some (Tells (end_of (exits.Refused refusal)))
+pub unbegun_reads : (start : Start) (stack : Description) (disks : DiskContents) (extent : Extent) (refusal : Refusal) → IsBegunAt stack None start (Err refusal) → refusal_status refusal ≢ STATUS_MEMORY → answer_from start stack disks extent ≡ Some (Tells (end_of (Refused refusal)))
 unbegun_reads start stack disks extent (refusals.Earlier fault) begun other = absurd (never_done fault begun.2)
 unbegun_reads start stack disks extent refusal begun other =
     ap (λ (s : Start). answer_from s stack disks extent) (begun other) ∙ sym (ap (λ end. Some (Tells end)) (end_refused refusal other))
@@ -65,33 +60,7 @@ no_memory (Err fault) six = omega (arith, six)
 pub written_no_memory : {F : Type 0} (written : Result (Option Stop) F) (exit : Exit) → exit ≡ written_exit written → exit_status exit ≡ STATUS_MEMORY → ⊥
 written_no_memory written exit is six = no_memory written (ap exit_status (sym is) ∙ six)
 
--- ---- the range of sectors to read
-
-pub count_taken : (from asked len : ℕ) (count : Option ℕ) → asked ≡ unwrap_or count (len - from) → from + asked ≤ len → Some asked ≡ count_in from count len
-count_taken from asked len count same inside =
-    let taken : Some asked ≡ within from asked len = rw (le-leb (from + asked) len inside) refl in
-    taken ∙ ap (λ (n : ℕ). within from n len) same
-
-pub count_past : (from asked len : ℕ) (count : Option ℕ) → asked ≡ unwrap_or count (len - from) → len < from + asked → None ≡ count_in from count len
-count_past from asked len count same past =
-    let none : None ≡ within from asked len = rw (lt-leb (from + asked) len past) refl in
-    none ∙ ap (λ (n : ℕ). within from n len) same
-
-pub extent_found : (stack : Description) (range : RangeWords) (device len : ℕ) (count : Option ℕ) → Some device ≡ position (λ device. is_same device.name range.device) stack.devices → len ≡ device_len stack device → count ≡ count_in range.from range.count len
-    → extent_at device range.from count ≡ extent_of stack range
-extent_found stack range device len count found same counted =
-    ap (extent_at device range.from) (counted ∙ ap (count_in range.from range.count) same)
-    ∙ ap (λ (f : Option ℕ). option_map_or (λ device. extent_at device range.from (count_in range.from range.count (device_len stack device))) f (Err refusals.Device)) found
-
-pub extent_unknown : (stack : Description) (range : RangeWords) → None ≡ position (λ device. is_same device.name range.device) stack.devices → Err refusals.Device ≡ extent_of stack range
-extent_unknown stack range none =
-    ap (λ (f : Option ℕ). option_map_or (λ device. extent_at device range.from (count_in range.from range.count (device_len stack device))) f (Err refusals.Device)) none
-
 -- ---- the places of disks
-
-pub settled_by : (at : Option (Result (List (Option Place)) LoadFault)) (result : Result (List (Option Place)) LoadFault) → IfOk result (λ places. at ≡ Some (Ok places)) → IfErr result (λ fault. fault.kind ≢ Memory → at ≡ Some (Err fault)) → AreSettled at result
-settled_by at (Ok places) given refused = given
-settled_by at (Err fault) given refused = refused
 
 -- places that are looked up in a list are settled by it
 pub settled_in : (at : Option (Result (List (Option Place)) LoadFault)) {listed : Result (List (Option Place)) LoadFault} (result : Result (List (Option Place)) LoadFault) → at ≡ Some listed → IfOk result (λ places. listed ≡ Ok places) → IfErr result (λ fault. fault.kind ≢ Memory → listed ≡ Err fault) → AreSettled at result

@@ -1,11 +1,9 @@
 -- What the requests that a player was handed imply for a replay.
-use Rattle.dmremap.proofs.Prelude.{ℕ, List, [], None, Some, Result, Err, IfErr, refl, sym, ap, subst, append_assoc, append-nil, IfErr-at_err, Delivery, InputPast, since, IsReadOn, MetNothing, IsCutShort, since-same, IsTidy, IsTop, Description, State, Ending, device_of, IsAmong, NumberedRequest, Requests, requests_of, Asked, asked_answers, world_after, HasTop, AreMaximal, flat, runs_text, named_id, named_top, top_named, Exit, Refusal, Tells, end_of, Does, refusal_status, ReplaysOver, ReplaysStack, AreAnswered, HasPlayed, HasStopped, IsAnswer, IsCutReplay, IsPlayed, StopsAt, asked_of, IsBegunAt, AskedBy, HasMetBy, Begins, Start}
-use Rattle.dm_stream.specs.declared.runs.ending.Ending.TheVariants as endings
+use Rattle.dmremap.proofs.Prelude.{ℕ, List, [], None, Some, Result, Err, IfErr, refl, sym, ap, subst, append_assoc, append-nil, IfErr-at_err, Delivery, InputPast, since, IsReadOn, MetNothing, IsCutShort, since-same, IsTidy, IsTop, Description, State, Ending, device_of, IsAmong, NumberedRequest, Requests, requests_of, Asked, asked_answers, world_after, HasTop, AreMaximal, flat, runs_text, named_id, named_top, top_named, Exit, Refusal, Tells, end_of, Does, refusal_status, ReplaysOver, ReplaysStack, AreAnswered, HasPlayed, HasStopped, IsAnswer, IsCutReplay, IsPlayed, StopsAt, asked_of, IsBegunAt, AskedBy, HasMetBy, Begins, Start, STATUS_MEMORY, WriteFault}
 use Rattle.dm_replay.specs.declared.replay_fault.ReplayFault.{ReplayFault}
 use Rattle.dm_replay.specs.declared.value_run.ValueRun.{ValueRun}
 use Rattle.dmremap.specs.declared.exit.Exit.TheVariants as exits
 use Rattle.dmremap.specs.declared.exit.Refusal.TheVariants as refusals
-use Rattle.dmremap.specs.declared.status.TheConstants.{STATUS_MEMORY}
 use Rattle.dmremap.proofs.AnswerLemmas.{does_more, end_refused}
 use Rattle.dmremap.proofs.BegunLemmas.{never_done}
 use Rattle.std.specs.Prelude.{◌≡◌, ◌≢◌, ◌∷◌, ◌++◌}
@@ -77,8 +75,8 @@ stopped_by Says IsCause stack start old request w r fault is h why = one_stopped
 -- ---- all requests
 
 -- all requests were answered, and they ended by themselves
-pub all_played : (stack : Description) (start : State) (requests : Requests) (text : List ℕ) (e : Ending) → AreAnswered stack start [] requests.all text → requests.ending ≡ Some e → e ≢ endings.WriteFault → IsPlayed stack start requests text (exits.Ended e)
-all_played stack start requests text endings.WriteFault told ends other = absurd (other refl)
+pub all_played : (stack : Description) (start : State) (requests : Requests) (text : List ℕ) (e : Ending) → AreAnswered stack start [] requests.all text → requests.ending ≡ Some e → e ≢ WriteFault → IsPlayed stack start requests text (exits.Ended e)
+all_played stack start requests text WriteFault told ends other = absurd (other refl)
 all_played stack start requests text e told ends other = record { ends_so = ends; told = told }
 
 -- a replay that stopped at one of the first requests stopped at one of all requests
@@ -96,7 +94,7 @@ stopped_among : (stack : Description) (start : State) (exit : Exit) (requests : 
     → IsPlayed stack start requests text exit
 stopped_among stack start (exits.NotTop number) requests first later text is stopped = stops_among _ stack start requests.all first later text is stopped
 stopped_among stack start exits.Memory requests first later text is stopped = stops_among _ stack start requests.all first later text is stopped
-stopped_among stack start (exits.Ended endings.WriteFault) requests first later text is stopped = record {
+stopped_among stack start (exits.Ended WriteFault) requests first later text is stopped = record {
   first = stopped.first;
   later = stopped.later ++ later;
   split = cc (append_assoc stopped.first stopped.later later);
@@ -114,7 +112,7 @@ part_played stack start exit requests text Stopped stopped among = stopped_among
 pub stopped_met : (old new : InputPast) (stack : Description) (start : State) (exit : Exit) (asked : List Asked) (requests : List NumberedRequest) (text : List ℕ) → HasStopped stack start exit asked requests text → MetNothing old new → HasMetBy exit old new
 stopped_met old new stack start (exits.NotTop number) asked requests text stopped met = met
 stopped_met old new stack start exits.Memory asked requests text stopped met = tt
-stopped_met old new stack start (exits.Ended endings.WriteFault) asked requests text stopped met = tt
+stopped_met old new stack start (exits.Ended WriteFault) asked requests text stopped met = tt
 stopped_met old new stack start exit asked requests text stopped met = absurd stopped
 
 -- ---- the stack of a replay
@@ -122,7 +120,7 @@ stopped_met old new stack start exit asked requests text stopped met = absurd st
 -- a replay that has begun does what an unrefused replay does
 pub played_does : (stack : Description) (start : State) (requests : Delivery) (text : List ℕ) (exit : Exit) → IsTidy stack → IsPlayed stack start (requests_of requests) text exit → Does (ReplaysStack stack start requests) text exit
 played_does stack start requests text (exits.Refused refusal) tidy played = absurd played
-played_does stack start requests text (exits.Ended endings.WriteFault) tidy played =
+played_does stack start requests text (exits.Ended WriteFault) tidy played =
     (played.whole, None, (tidy, record { first = played.first; later = played.later; split = played.split; told = played.told }), played.cut)
 played_does stack start requests text exit tidy played = (tidy, exit, played, refl, refl)
 

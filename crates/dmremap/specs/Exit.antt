@@ -1,8 +1,7 @@
 -- How a command exits: its status and its message.
-use Rattle.dmremap.specs.Base.{ℕ, Bool, true, false, List, Result, Ok, Err, codes, load_message, memory_message, Ending, earlier_message, ending_message, refused_request, write_faults, stop_message, NameFault, name_message, name_refusal, Exit, Refusal}
+use Rattle.dmremap.specs.Base.{ℕ, Bool, true, false, List, Result, Ok, Err, codes, load_message, memory_message, Ending, earlier_message, ending_message, refused_request, write_faults, stop_message, NameFault, name_message, name_refusal, Exit, Refusal, BadRequest, Done, ReadFault, WriteFault}
 use Rattle.dm_table.specs.declared.load.load_fault.LoadKind.{LoadKind}
 use Rattle.dm_table.specs.declared.load.load_fault.LoadKind.TheVariants as kinds
-use Rattle.dm_stream.specs.declared.runs.ending.Ending.TheVariants as endings
 use Rattle.lvm_volume.specs.declared.fault.NameFault.TheVariants as names
 use Rattle.dmremap.specs.declared.exit.Exit.TheVariants as exits
 use Rattle.dmremap.specs.declared.exit.Refusal.TheVariants as refusals
@@ -33,10 +32,10 @@ IsOutOfMemory refusal = refusal_status refusal ≡ STATUS_MEMORY
 
 -- the exit status of a run that ended like this
 abbrev pub ending_status : Ending → ℕ
-ending_status endings.Done = STATUS_DONE
-ending_status (endings.BadRequest number word) = STATUS_BAD_REQUEST
-ending_status endings.ReadFault = STATUS_READ_FAULT
-ending_status endings.WriteFault = STATUS_WRITE_FAULT
+ending_status Done = STATUS_DONE
+ending_status (BadRequest number word) = STATUS_BAD_REQUEST
+ending_status ReadFault = STATUS_READ_FAULT
+ending_status WriteFault = STATUS_WRITE_FAULT
 
 -- the exit status of a command
 abbrev pub exit_status : Exit → ℕ
@@ -82,7 +81,7 @@ is_refused _ = false
 -- whether the output is flushed at the exit: not if the command was refused, nor after a write that failed
 abbrev pub is_flushed : Exit → Bool
 is_flushed (exits.Refused refusal) = false
-is_flushed (exits.Ended endings.WriteFault) = false
+is_flushed (exits.Ended WriteFault) = false
 is_flushed _ = true
 
 -- how many writes failed before this exit
@@ -92,5 +91,5 @@ failed_writes _ = 0
 
 -- the exit of a command that wrote all of its text, or whose write failed
 abbrev pub exit_after : {E : Type 0} → Result (Unit {0}) E → Exit
-exit_after (Ok done) = exits.Ended endings.Done
-exit_after (Err fault) = exits.Ended endings.WriteFault
+exit_after (Ok done) = exits.Ended Done
+exit_after (Err fault) = exits.Ended WriteFault

@@ -1,6 +1,5 @@
 -- What `help` prints for a message: the texts of the manual's entries about the message's word.
-use Rattle.dmremap.specs.Base.{Bool, List, [], Option, None, Some, codes, drop, filter, length, map, option_map, take, join_with_byte, list_any, option_map_or, bytes_eq, code}
-use Rattle.clap.specs.Words.{Text}
+use Rattle.dmremap.specs.Base.{Bool, List, [], Option, None, Some, codes, drop, filter, length, map, option_map, take, join_with_byte, list_any, option_map_or, bytes_eq, code, Text}
 use Rattle.dmremap.specs.declared.messages.TheConstants.{FIRST_ENTRIES, LATER_ENTRIES}
 use Rattle.std.specs.Prelude.{◌∷◌, ◌&&◌, ◌||◌, if◌then◌else◌}
 

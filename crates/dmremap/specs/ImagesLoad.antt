@@ -1,7 +1,5 @@
 -- What the images listed in PATHS open: a load of the LVM2 text found in their heads, or a message if a head is refused.
-use Rattle.dmremap.specs.Base.{ℕ, List, [], Option, Some, None, Result, Ok, Err, length, map, nat_lt, position, slice_get, option_map_or, is_ok, LoadFault, Limit, Memory, Paths, DiskPath, Delivery, InputPast, delivery, IsReadOn, fault_at, PartRead, TextOf, Refuses, Unread, part_read, read_paths, Description, described, disk_len, is_same, IsSound, IsRefusedBy, Contents, HeadRefusal, Sectors, AllSaid, heads_of, head_message, Owners, Gives, Refusal}
-use Rattle.dm_store.specs.declared.images.ReadFault.{ReadFault}
-use Rattle.lvm_head.specs.declared.disks.ReadFault.{ReadFault as HeadReadFault}
+use Rattle.dmremap.specs.Base.{ℕ, List, [], Option, Some, None, Result, Ok, Err, length, map, nat_lt, position, slice_get, option_map_or, is_ok, LoadFault, Limit, Memory, Paths, DiskPath, Delivery, InputPast, delivery, IsReadOn, fault_at, PartRead, TextOf, Refuses, Unread, part_read, read_paths, Description, described, disk_len, is_same, IsSound, IsRefusedBy, Contents, in_extent, HeadRefusal, Sectors, AllSaid, heads_of, head_message, Owners, Gives, Refusal}
 use Rattle.lvm_head.specs.declared.fault.HeadFault.{HeadFault}
 use Rattle.lvm_head.specs.declared.fault.HeadFault.TheVariants as faults
 use Rattle.lvm_head.specs.Disks.{Contents as DiskContents}
@@ -18,14 +16,9 @@ use Rattle.std.specs.Prelude.{◌≡◌, ◌≢◌, ◌⊎◌, ◌+◌, ◌-◌,
 
 -- ---- the contents of listed disks, by those of images
 
--- the result of reading a sector of an image, as the result of reading a sector of a disk
-abbrev pub on_disk : Result (List ℕ) ReadFault → Result (List ℕ) HeadReadFault
-on_disk (Ok bytes) = Ok bytes
-on_disk (Err fault) = Err (record {})
-
 -- the sectors of a disk at this path: they begin at sector `path.start` of the image; without a path every read fails
 abbrev pub at_path : Contents → Option DiskPath → Sectors
-at_path held (Some path) sector = on_disk (held path.at.number path.file (path.start + sector))
+at_path held (Some path) sector = in_extent path.extent (held path.at.number path.file) sector
 at_path held None sector = Err (record {})
 
 abbrev pub listed_disks : List DiskPath → Contents → DiskContents

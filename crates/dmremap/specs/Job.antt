@@ -1,6 +1,5 @@
 -- A job as its command and the texts of its words.
-use Rattle.dmremap.specs.Base.{ℕ, Bool, Option, option_map, NameParts, Format, Job, TableForm}
-use Rattle.clap.specs.Words.{Text}
+use Rattle.dmremap.specs.Base.{ℕ, Bool, Option, option_map, NameParts, Format, Job, TableForm, Text}
 use Rattle.dmremap.specs.declared.job.Job.TheVariants as job
 use Rattle.dmremap.specs.declared.job.SectorRange.{SectorRange}
 use Rattle.dmremap.specs.declared.job.Source.{Source}

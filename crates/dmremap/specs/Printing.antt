@@ -1,8 +1,6 @@
 -- What is printed of devices, of a name and of the word of a message.
-use Rattle.dmremap.specs.Base.{ℕ, List, [], Some, Result, Ok, Err, DeviceSpec, concise_text, table_text, code, Description, IsReport, NameFault, Builds, IsSpaced, NameParts, Refusal, TableForm, Concise, Table}
-use Rattle.dm_stream.specs.declared.runs.ending.Ending.TheVariants as endings
+use Rattle.dmremap.specs.Base.{ℕ, List, [], Some, Result, Ok, Err, DeviceSpec, concise_text, table_text, code, Description, IsReport, NameFault, Builds, IsSpaced, NameParts, Refusal, TableForm, Concise, Table, Done, Ended, Refused}
 use Rattle.dmremap.specs.Answers.{Answer, Tells, Writes, end_of}
-use Rattle.dmremap.specs.declared.exit.Exit.TheVariants as exits
 use Rattle.dmremap.specs.declared.exit.Refusal.TheVariants as refusals
 use Rattle.std.specs.Prelude.{◌≡◌, ◌∷◌, ◌++◌}
 
@@ -15,8 +13,8 @@ pub data Said : Type 0 where
 
 -- the answer that writes the text, or that reports the refusal
 abbrev pub answer_said : Said → Answer
-answer_said (Prints text) = Writes text (Some (end_of (exits.Ended endings.Done)))
-answer_said (Refuses refusal) = Tells (end_of (exits.Refused refusal))
+answer_said (Prints text) = Writes text (Some (end_of (Ended Done)))
+answer_said (Refuses refusal) = Tells (end_of (Refused refusal))
 
 -- an answer that writes or reports something that `Says` allows
 abbrev pub SaidBy : (Says : Said → Type 0) → Answer → Type 0

@@ -1,10 +1,8 @@
 -- What `read` answers: the bytes of a device's sectors, given what was delivered and what images hold.
-use Rattle.dmremap.specs.Base.{ℕ, List, length, Option, Some, None, Result, Ok, Err, nat_le, position, unwrap_or, option_map_or, LoadFault, Memory, Read, Paths, Delivery, fault_at, part_read, Description, device_len, is_same, Contents, DiskContents, disk_contents, Place, stored_state, Reading, bytes_of, device_bytes, Exit, Refusal}
+use Rattle.dmremap.specs.Base.{ℕ, List, length, Option, Some, None, Result, Ok, Err, nat_le, position, unwrap_or, option_map_or, LoadFault, Memory, Read, Paths, Delivery, fault_at, part_read, Description, device_len, is_same, Contents, DiskContents, disk_contents, Place, stored_state, Reading, bytes_of, device_bytes, Exit, Refusal, Done, WriteFault, Ended, Refused, Stopped}
 use Rattle.dm_stack.specs.declared.checks.limits.TheConstants.{MOST_LENGTH}
-use Rattle.dm_stream.specs.declared.runs.ending.Ending.TheVariants as endings
 use Rattle.dm_read.specs.declared.fault.Stop.{Stop}
 use Rattle.dmremap.specs.Answers.{Answer, Tells, Writes, end_of, refused_by}
-use Rattle.dmremap.specs.declared.exit.Exit.TheVariants as exits
 use Rattle.dmremap.specs.declared.exit.Refusal.TheVariants as refusals
 use Rattle.dmremap.specs.declared.read_run.Extent.{Extent}
 use Rattle.dmremap.specs.Job.{RangeWords}
@@ -42,13 +40,13 @@ pub record IsExtentOf (stack : Description) (extent : Extent) : Type 0 where
 
 -- the exit of a command that wrote sectors, all of them or up to one that has no bytes
 abbrev pub stop_exit : Option Stop → Exit
-stop_exit None = exits.Ended endings.Done
-stop_exit (Some stop) = exits.Stopped stop
+stop_exit None = Ended Done
+stop_exit (Some stop) = Stopped stop
 
 -- the exit of a command that wrote sectors, or whose write failed
 abbrev pub written_exit : {F : Type 0} → Result (Option Stop) F → Exit
 written_exit (Ok stop) = stop_exit stop
-written_exit (Err fault) = exits.Ended endings.WriteFault
+written_exit (Err fault) = Ended WriteFault
 
 -- the answer that writes the bytes read, and ends as reading them ended
 abbrev pub reading_answer : Reading → Answer
@@ -65,12 +63,12 @@ answer_from Unsettled stack disks extent = None
 -- the answer of reading an extent of a stack in the state that its exception stores hold, or the refusal of the extent
 abbrev pub extent_answer : Description → DiskContents → Result Extent Refusal → Option Answer
 extent_answer stack disks (Ok extent) = answer_from (start_at stack (stored_state stack disks)) stack disks extent
-extent_answer stack disks (Err refusal) = Some (Tells (end_of (exits.Refused refusal)))
+extent_answer stack disks (Err refusal) = Some (Tells (end_of (Refused refusal)))
 
 -- the answer of reading a range, given where the stack's disks lie; None while that isn't settled
 abbrev pub range_answer : Contents → Description → RangeWords → Option (Result (List (Option Place)) LoadFault) → Option Answer
 range_answer held stack range (Some (Ok places)) = extent_answer stack (disk_contents places held) (extent_of stack range)
-range_answer held stack range (Some (Err fault)) = Some (Tells (end_of (exits.Refused (refusals.Load fault))))
+range_answer held stack range (Some (Err fault)) = Some (Tells (end_of (Refused (refusals.Load fault))))
 range_answer held stack range None = None
 
 -- where the disks of a stack lie, according to PATHS, or the fault of PATHS; a missing PATHS is a fault

@@ -1,6 +1,5 @@
 -- What a replay writes for the delivered requests, and how it exits.
-use Rattle.dmremap.specs.Base.{ℕ, List, [], None, Some, map, since, IsCutShort, Description, device_id, State, Ending, NumberedRequest, Requests, Asked, asked_answers, world_after, HasTop, AreMaximal, flat, runs_text, Exit}
-use Rattle.dm_stream.specs.declared.runs.ending.Ending.TheVariants as endings
+use Rattle.dmremap.specs.Base.{ℕ, List, [], None, Some, map, since, IsCutShort, Description, device_id, State, Ending, NumberedRequest, Requests, Asked, asked_answers, world_after, HasTop, AreMaximal, flat, runs_text, Exit, BadRequest, Done, ReadFault, WriteFault}
 use Rattle.dm_replay.specs.declared.value_run.ValueRun.{ValueRun}
 use Rattle.dmremap.specs.declared.exit.Exit.TheVariants as exits
 use Rattle.std.specs.Prelude.{◌≡◌, ◌∷◌, ◌++◌}
@@ -69,7 +68,7 @@ pub record HasPlayed (stack : Description) (start : State) (old new : List Asked
 abbrev pub HasStopped : Description → (start : State) → Exit → List Asked → List NumberedRequest → List ℕ → Type 0
 HasStopped stack start (exits.NotTop number) asked requests text = StopsAt (IsOfNone stack number) stack start asked requests text
 HasStopped stack start exits.Memory asked requests text = StopsAt (IsOfTop stack) stack start asked requests text
-HasStopped stack start (exits.Ended endings.WriteFault) asked requests text = IsCutReplay stack start asked requests text
+HasStopped stack start (exits.Ended WriteFault) asked requests text = IsCutReplay stack start asked requests text
 HasStopped stack start exit asked requests text = ⊥
 
 -- ---- a whole replay
@@ -81,7 +80,7 @@ pub record IsWhole (stack : Description) (start : State) (requests : Requests) (
 
 -- what a replay wrote before its output is closed, depending on its exit
 abbrev pub IsPlayed : Description → (start : State) → Requests → List ℕ → Exit → Type 0
-IsPlayed stack start requests text (exits.Ended endings.Done) = IsWhole stack start requests text endings.Done
-IsPlayed stack start requests text (exits.Ended (endings.BadRequest number word)) = IsWhole stack start requests text (endings.BadRequest number word)
-IsPlayed stack start requests text (exits.Ended endings.ReadFault) = IsWhole stack start requests text endings.ReadFault
+IsPlayed stack start requests text (exits.Ended Done) = IsWhole stack start requests text Done
+IsPlayed stack start requests text (exits.Ended (BadRequest number word)) = IsWhole stack start requests text (BadRequest number word)
+IsPlayed stack start requests text (exits.Ended ReadFault) = IsWhole stack start requests text ReadFault
 IsPlayed stack start requests text exit = HasStopped stack start exit [] requests.all text

@@ -1,6 +1,5 @@
 -- The state that a run starts in where exception stores are read: PATHS says where the disks lie, and the images say what the stores hold.
-use Rattle.dmremap.specs.Base.{List, Option, None, Some, Result, Ok, Err, LoadFault, Paths, DiskPath, Delivery, load_message, PartRead, TextOf, Refuses, Unread, part_read, read_paths, Description, name_at, State, refused_ending, Place, Contents, disk_contents, images_of, store_message, stored_state, Refusal}
-use Rattle.dm_stream.specs.declared.runs.ending.Ending.TheVariants as endings
+use Rattle.dmremap.specs.Base.{List, Option, None, Some, Result, Ok, Err, LoadFault, Paths, DiskPath, Delivery, load_message, PartRead, TextOf, Refuses, Unread, part_read, read_paths, Description, name_at, State, refused_ending, Place, Contents, disk_contents, images_of, store_message, stored_state, Refusal, Done}
 use Rattle.dm_store.specs.declared.fault.StoreRefusal.{StoreRefusal}
 use Rattle.dmremap.specs.declared.prepared.Prepared.{Prepared}
 use Rattle.dmremap.specs.declared.exit.Refusal.TheVariants as refusals
@@ -60,6 +59,6 @@ pub record ReadInTurn {X Y : Type 0} (Opens : Opening → Type 0) (paths : Optio
 -- how a run begins: in the state that earlier requests left, or refused by a bad start or a fault in those requests; running out of memory is always allowed
 abbrev pub IsBegunAt : Description → (before : Option Delivery) → Start → Result Prepared Refusal → Type 0
 IsBegunAt stack before at (Ok prepared) =
-    (state : State) × (at ≡ start.Begins state) × ((start.earlier_from state stack before).ending ≡ Some endings.Done) × (prepared.mapper.state ≡ (start.earlier_from state stack before).state)
+    (state : State) × (at ≡ start.Begins state) × ((start.earlier_from state stack before).ending ≡ Some Done) × (prepared.mapper.state ≡ (start.earlier_from state stack before).state)
 IsBegunAt stack before at (Err (refusals.Earlier fault)) = (state : State) × (at ≡ start.Begins state) × ((start.earlier_from state stack before).ending ≡ Some (refused_ending fault))
 IsBegunAt stack before at (Err refusal) = refusal_status refusal ≢ STATUS_MEMORY → at ≡ start.Refuses (refusal_message refusal)

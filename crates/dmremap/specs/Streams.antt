@@ -1,6 +1,5 @@
 -- What a command did with its streams until it exited.
-use Rattle.dmremap.specs.Base.{ℕ, true, false, List, InputPast, OutputPast, memory_message, HasWritten, IsFinished, IsFlushed, IsReadOn, MetNothing, WriteFault, HasMet, HasTold, IsTold, write_message, Exit}
-use Rattle.dmremap.specs.declared.exit.Exit.TheVariants as exits
+use Rattle.dmremap.specs.Base.{ℕ, true, false, List, InputPast, OutputPast, memory_message, HasWritten, IsFinished, IsFlushed, IsReadOn, MetNothing, WriteFault, HasMet, HasTold, IsTold, write_message, Exit, Ended, NotTop}
 use Rattle.dmremap.specs.declared.status.TheConstants.{STATUS_BAD_REQUEST, STATUS_DONE, STATUS_MEMORY, STATUS_READ_FAULT, STATUS_REFUSED, STATUS_WRITE_FAULT}
 use Rattle.dmremap.specs.Exit.{exit_message, exit_status, failed_writes, is_flushed, is_refused}
 use Rattle.std.specs.Prelude.{◌≡◌, ◌≢◌, ◌⊎◌, ◌+◌, ◌<◌, ◌≤◌}
@@ -66,8 +65,8 @@ pub record Exits (exit : Exit) (result : ℕ) (old new : OutputPast) : Type 0 wh
 
 -- what reading the requests met before this exit
 abbrev pub HasMetBy : Exit → (old new : InputPast) → Type 0
-HasMetBy (exits.Ended ending) old new = HasMet ending old new
-HasMetBy (exits.NotTop number) old new = MetNothing old new
+HasMetBy (Ended ending) old new = HasMet ending old new
+HasMetBy (NotTop number) old new = MetNothing old new
 HasMetBy _ old new = Unit {0}
 
 -- how requests were read before this exit: not after their end or a fault, and not at all if the command was refused
@@ -80,7 +79,7 @@ pub record AskedBy (old new : InputPast) (exit : Exit) : Type 0 where
 abbrev pub EndsAs : (before : Exit) → (flushes_old flushes_new : ℕ) → (after : Exit) → Type 0
 EndsAs before old new after =
     ((after ≡ before) × (is_flushed before ≡ false → new ≡ old))
-    ⊎ ((after ≡ exits.Ended WriteFault) × (is_flushed before ≡ true) × (new ≡ old + 1))
+    ⊎ ((after ≡ Ended WriteFault) × (is_flushed before ≡ true) × (new ≡ old + 1))
 
 -- closing the output wrote nothing, and turned the exit `before` into the exit `after`
 pub record IsClosedAs (before : Exit) (old new : OutputPast) (after : Exit) : Type 0 where

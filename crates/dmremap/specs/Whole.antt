@@ -1,7 +1,6 @@
 -- What `map` answers to what was delivered. It may first play earlier requests, without answering them, and may start in the state that exception stores hold.
-use Rattle.dmremap.specs.Base.{ℕ, Bool, List, [], Option, None, Some, option_map, Delivery, InputPast, delivery, Ending, State, start_state, Description, Outcome, requests_outcome, run_outcome, HasMet, Ended, Refused}
+use Rattle.dmremap.specs.Base.{ℕ, Bool, List, [], Option, None, Some, option_map, Delivery, InputPast, delivery, Ending, State, start_state, Description, Outcome, requests_outcome, run_outcome, HasMet, Ended, Refused, BadRequest, Done, ReadFault, WriteFault}
 use Rattle.dm_stream.specs.declared.runs.earlier.EarlierFault.TheVariants as earlier
-use Rattle.dm_stream.specs.declared.runs.ending.Ending.TheVariants as endings
 use Rattle.dmremap.specs.declared.exit.Refusal.TheVariants as refusals
 use Rattle.dmremap.specs.Answers.{Answer, Tells, Writes, end_of, refused_by}
 use Rattle.dmremap.specs.Load.{SoundAs}
@@ -10,7 +9,7 @@ use Rattle.std.specs.Prelude.{◌≡◌, ◌⊎◌}
 
 -- the outcome of playing earlier requests over a stack in this state; without them the state stays as it is
 abbrev pub earlier_from : State → Description → (before : Option Delivery) → Outcome
-earlier_from start description None = record { output = []; state = start; ending = Some endings.Done }
+earlier_from start description None = record { output = []; state = start; ending = Some Done }
 earlier_from start description (Some before) = requests_outcome description start before
 
 -- the outcome of the delivered requests, from the state that earlier ones left; `flag` asks for status lines
@@ -29,10 +28,10 @@ fresh_start description = Begins (start_state description)
 
 -- what a run with this outcome answers; earlier requests that didn't come to a clean end refuse it
 abbrev pub answer_after : Option Ending → Outcome → Option Answer
-answer_after (Some endings.Done) outcome = Some (Writes outcome.output (option_map (λ ending. end_of (Ended ending)) outcome.ending))
-answer_after (Some (endings.BadRequest number word)) outcome = Some (Tells (end_of (Refused (refusals.Earlier (earlier.BadRequest number word)))))
-answer_after (Some endings.ReadFault) outcome = Some (Tells (end_of (Refused (refusals.Earlier earlier.Read))))
-answer_after (Some endings.WriteFault) outcome = None
+answer_after (Some Done) outcome = Some (Writes outcome.output (option_map (λ ending. end_of (Ended ending)) outcome.ending))
+answer_after (Some (BadRequest number word)) outcome = Some (Tells (end_of (Refused (refusals.Earlier (earlier.BadRequest number word)))))
+answer_after (Some ReadFault) outcome = Some (Tells (end_of (Refused (refusals.Earlier earlier.Read))))
+answer_after (Some WriteFault) outcome = None
 answer_after None outcome = None
 
 -- what a run answers over a stack that starts like this; None if the start isn't settled

@@ -1,11 +1,10 @@
 -- The program's command line, and the job or the fault that its words stand for.
-use Rattle.dmremap.specs.Base.{[], ℕ, Bool, true, false, List, Option, None, Some, Result, IfOk, ⊤, codes, drop, map, not, option_and_then, option_map, unwrap_or, Bor, before_first, list_any, option_map_or, bytes_eq, digits_value, Format, Lvm, Tables, Job, Concise, Table}
+use Rattle.dmremap.specs.Base.{[], ℕ, Bool, true, false, List, Option, None, Some, Result, IfOk, ⊤, codes, drop, map, not, option_and_then, option_map, unwrap_or, Bor, before_first, list_any, option_map_or, bytes_eq, digits_value, Format, Lvm, Tables, Job, Concise, Table, App, Row, Rule, Text, app_of, fault_of, first_of, kind_of, new_app, new_rule, subcommand_of, with_rule, with_subcommand}
 use Rattle.std.specs.Prelude.{◌≡◌, ◌≢◌, ◌∷◌, ◌&&◌, ◌||◌, if◌then◌else◌}
 use Rattle.std.specs.Str.Parse.{without_leading_plus}
 use Rattle.clap.specs.Kinds.{IsAmong}
 use Rattle.clap.specs.Simple.{on_top}
 use Rattle.clap.specs.ValueTests.{accepts}
-use Rattle.clap.specs.Words.{App, Row, Rule, Text, app_of, fault_of, first_of, kind_of, new_app, new_rule, subcommand_of, with_rule, with_subcommand}
 use Rattle.clap.specs.declared.builder.command.Command.{Command}
 use Rattle.clap.specs.declared.builder.ArgAction.{ArgAction}
 use Rattle.clap.specs.declared.builder.ArgAction.TheVariants.{SetTrue, Version}

@@ -3,10 +3,8 @@
 //! A command does its work and returns how it would exit; only then is its output closed and its message written. A
 //! new way to exit is a variant of `Exit`, with its status and its message here and in `specs/Exit.antt`.
 
-ghost use Rattle.dmremap.specs.Prelude.{OnErr, OnOk, false, Exit, exit_after, exit_message, exit_status, is_refused, load_status, name_status, refusal_status, Exits, IsClosedAs};
-ghost use Rattle.dmremap.specs.declared.exit.Exit.TheVariants.{Ended, Refused};
+ghost use Rattle.dmremap.specs.Prelude.{OnErr, OnOk, false, Exit, exit_after, exit_message, exit_status, is_refused, load_status, name_status, refusal_status, Exits, IsClosedAs, Ended, Refused, WriteFault};
 ghost use Rattle.dmremap.specs.declared.exit.Refusal.TheVariants.{Load};
-ghost use Rattle.dm_stream.specs.declared.runs.ending.Ending.TheVariants.{WriteFault};
 ghost use Rattle.std.specs.Prelude.{◌≡◌, ◌≢◌};
 
 use crate::status::{

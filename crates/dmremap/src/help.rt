@@ -83,8 +83,8 @@ Lines
   --before  lines like those of requests, which are played first; the standard
             input starts from the state that they leave
   --paths   DISK PATH             the file or block device that holds this disk
-            DISK PATH?offset=BYTES
-                                  the same, if the disk begins later in it
+            DISK PATH?offset=BYTES&length=BYTES
+                                  the part of it that the disk is
             The run starts from what the stores of snapshots of the kinds P
             and K hold there. Without --paths, every snapshot counts as fresh.
 DEV, ORIGIN and STORE are each a disk, or /dev/mapper/NAME for a device of FILE.

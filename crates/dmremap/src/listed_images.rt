@@ -3,9 +3,9 @@
 ghost use Rattle.dmremap.specs.Prelude.{AreSeen};
 ghost use Rattle.std.specs.Prelude.{◌≡◌};
 
-use dm_store::Images;
-use dm_table::DiskPath;
-use lvm_head::{Disks, ReadFault};
+use dm_store::{Images, read_extent};
+use dm_table::{DiskPath, ReadFault};
+use lvm_head::Disks;
 use std::alloc::Global;
 
 /// Images, and the list that says which disk lies in which image.
@@ -36,13 +36,13 @@ impl<I: Images> Disks for ListedImages<I> {
         let Some(path) = self.paths.get(disk) else {
             return Err(ReadFault);
         };
-        let start = path.start.number() + sector;
-        match self
-            .images
-            .read(path.at.number, path.file.as_str(), start, into)
-        {
-            Ok(()) => Ok(()),
-            Err(_) => Err(ReadFault),
-        }
+        read_extent(
+            &mut self.images,
+            path.at.number,
+            path.file.as_str(),
+            path.extent,
+            sector,
+            into,
+        )
     }
 }

@@ -195,8 +195,9 @@ dmremap: disks: field at NUMBER
 
 const PATHS_FIELD: &str = "\
 dmremap: paths: field at LINE
-  The offset isn't a multiple of 512. It is in bytes: multiply a partition's
-  first sector by 512.
+  A part of a file needs an offset and a length, in this order, both multiples
+  of 512. They are in bytes: multiply a partition's first sector, and its number
+  of sectors, by 512.
 ";
 
 const FOREIGN: &str = "\

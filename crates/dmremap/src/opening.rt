@@ -4,17 +4,8 @@
 //!
 //! What images hold isn't known beforehand, so each clause is about any contents that agree with all reads of them.
 
-ghost use Rattle.dmremap.specs.Base.{IfErr, IfOk, None, Option, Some, InputPast, written_since, HasWritten, Description, Contents, CanMap};
-ghost use Rattle.dmremap.specs.Answers.{Answer};
+ghost use Rattle.dmremap.specs.Prelude.{IfErr, IfOk, None, Option, Some, InputPast, written_since, HasWritten, Description, Contents, CanMap, Answer, Does, IsOutOfMemory, exit_status, failed_writes, RangeWords, range_words, SoundAs, IsOpened, Loaded, Opening, IsBegunAt, AskedBy, Start};
 ghost use Rattle.dmremap.specs.declared.status.TheConstants.{STATUS_MEMORY};
-ghost use Rattle.dmremap.specs.Done.{Does};
-ghost use Rattle.dmremap.specs.Exit.{IsOutOfMemory, exit_status, failed_writes};
-ghost use Rattle.dmremap.specs.Job.{RangeWords, range_words};
-ghost use Rattle.dmremap.specs.Load.{SoundAs};
-ghost use Rattle.dmremap.specs.Opening.{IsOpened, Loaded, Opening};
-ghost use Rattle.dmremap.specs.StoredStart.{IsBegunAt};
-ghost use Rattle.dmremap.specs.Streams.{AskedBy};
-ghost use Rattle.dmremap.specs.Whole.{Start};
 ghost use Rattle.std.specs.Prelude.{◌≡◌};
 
 use crate::exit::{Exit, Refusal};

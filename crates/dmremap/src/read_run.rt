@@ -2,8 +2,7 @@
 //!
 //! `specs/ReadWhole.antt` defines the answer, given where the disks lie and what images hold there.
 
-ghost use Rattle.dmremap.specs.Prelude.{IfErr, IfOk, IfSome, List, Ok, Option, Result, Some, InputPast, written_since, HasWritten, Contents, disk_contents, Place, Does, exit_status, failed_writes, range_words, AreSettled, IsExtentOf, count_in, extent_answer, extent_of, range_answer, written_exit, AskedBy};
-ghost use Rattle.dm_table.specs.declared.load.load_fault.LoadFault.{LoadFault};
+ghost use Rattle.dmremap.specs.Prelude.{IfErr, IfOk, IfSome, List, Ok, Option, Result, Some, InputPast, written_since, HasWritten, Contents, disk_contents, Place, Does, exit_status, failed_writes, range_words, AreSettled, IsExtentOf, count_in, extent_answer, extent_of, range_answer, written_exit, AskedBy, LoadFault};
 ghost use Rattle.dmremap.specs.declared.status.TheConstants.{STATUS_MEMORY};
 ghost use Rattle.std.specs.Prelude.{◌≡◌, ◌+◌, ◌≤◌};
 

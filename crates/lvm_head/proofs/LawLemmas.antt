@@ -222,9 +222,6 @@ same_whole (x ∷ xs) (y ∷ ys) common a b =
     let equal : bytes_eq (x ∷ xs) (y ∷ ys) ≡ true = (bytes_eq-Decides (x ∷ xs) (y ∷ ys)).1 (first ∙ sym second) in
     record { one = x ∷ xs; is = same_both x xs y ys ∙ ap (λ (b : Bool). let r : Result (List ℕ) HeadFault = if b then Ok (x ∷ xs) else Err Differ in r) equal; either = inr first; first = λ _. first; second = λ _. first }
 
-abbrev Says : Sectors → (text : List ℕ) → Area → Type 0
-Says sectors text area = area_text sectors area ≡ Ok text
-
 -- `before` is [] or `text`, each area spells `text` or none, and an area spells `text` unless `before` is that already
 record SayOne (sectors : Sectors) (before text : List ℕ) (areas : List Area) : Type 0 where
   after : IsOneOf before text

@@ -1,6 +1,5 @@
 -- A metadata area: its header, and where its text is in the ring buffer after the header (mda_header and raw_locn in lvm2's format_text).
-use Rattle.lvm_head.specs.Base.{ℕ, Bool, List, nat_le, nat_lt, slice_range, Area, Location}
-use Rattle.lvm_head.specs.Numbers.{eight_at, four_at}
+use Rattle.lvm_head.specs.Base.{ℕ, Bool, List, nat_le, nat_lt, slice_range, Area, Location, eight_at, four_at}
 use Rattle.lvm_head.specs.Sums.{sum_of}
 use Rattle.std.specs.Prelude.{◌+◌, ◌-◌, ◌%◌, ◌==◌, ◌&&◌, ◌||◌, if◌then◌else◌}
 

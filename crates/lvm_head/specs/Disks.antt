@@ -1,6 +1,5 @@
 -- The contents of disks, sector by sector.
-use Rattle.lvm_head.specs.Base.{ℕ, List, Result, Ok, Err, length, slice_range, ReadFault, HeadFault, Unread}
-use Rattle.std.specs.Prelude.{◌≡◌, ◌<◌, ◌+◌, ◌*◌}
+use Rattle.lvm_head.specs.Base.{ℕ, List, Result, Ok, Err, ReadFault, HeadFault, Unread}
 
 -- the content of each sector of a disk, or that the sector can't be read
 abbrev pub Sectors : Type 0
@@ -9,15 +8,6 @@ Sectors = (sector : ℕ) → Result (List ℕ) ReadFault
 -- the content of each sector of each disk
 abbrev pub Contents : Type 0
 Contents = (disk : ℕ) → Sectors
-
--- the bytes of sector number `index` in a block of consecutive sectors
-abbrev pub sector_in : (bytes : List ℕ) → (index : ℕ) → List ℕ
-sector_in bytes index = slice_range bytes (512 * index) (512 * index + 512)
-
--- what a read of consecutive sectors shows: on success the content of each; on failure, that the sector can't be read if it was one, and nothing if more
-abbrev pub AreRead : Sectors → (from : ℕ) → Result (Unit {0}) ReadFault → (bytes : List ℕ) → Type 0
-AreRead sectors from (Ok done) bytes = (i : ℕ) → 512 * i < length bytes → sectors (from + i) ≡ Ok (sector_in bytes i)
-AreRead sectors from (Err fault) bytes = length bytes ≡ 512 → sectors from ≡ Err fault
 
 -- the content of a sector, as a read of that sector alone shows it
 abbrev pub answer : {F : Type 0} → Result (Unit {0}) F → (bytes : List ℕ) → Result (List ℕ) F

@@ -1,8 +1,7 @@
 -- The label of a physical volume, and the header in the label's sector (label_header and pv_header in lvm2).
-use Rattle.lvm_head.specs.Base.{ℕ, Bool, not, List, Option, Some, None, Result, Ok, Err, length, map, nat_le, slice_index, slice_range, range_with_len, slice_split, Area, ReadFault, HeadFault, Array, Header, Label, Partitions, Unread}
+use Rattle.lvm_head.specs.Base.{ℕ, Bool, not, List, Option, Some, None, Result, Ok, Err, length, map, nat_le, slice_index, slice_range, range_with_len, slice_split, Area, ReadFault, HeadFault, Array, Header, Label, Partitions, Unread, eight_at, four_at}
 use Rattle.lvm_head.specs.Disks.{Sectors, ◌>>=◌, needed}
 use Rattle.lvm_head.specs.FirstFound.{first_found}
-use Rattle.lvm_head.specs.Numbers.{eight_at, four_at}
 use Rattle.lvm_head.specs.Sums.{sum_of}
 use Rattle.std.specs.Prelude.{◌+◌, ◌*◌, ◌-◌, ◌/◌, ◌%◌, ◌==◌, ◌&&◌, ◌||◌, ◌∷◌, if◌then◌else◌}
 

@@ -1,4 +1,3 @@
-pub mod Numbers
 pub mod Sums
 pub mod Disks
 pub mod FirstFound

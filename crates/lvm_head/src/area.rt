@@ -1,12 +1,12 @@
 //! Metadata areas: their headers, and where in them the texts are.
 
 ghost use Rattle.lvm_head.specs.Prelude.{ℕ, true, false, length, is_header, is_near, is_none, is_within, location_in, ring_place, eight_at};
-ghost use Rattle.lvm_head.specs.declared.disks.TheConstants.{MOST_BYTES, SECTOR};
+ghost use Rattle.dm_table.specs.declared.io.sectors.TheConstants.{MOST_BYTES, SECTOR};
 ghost use Rattle.std.specs.Prelude.{◌≡◌, ◌+◌, ◌<◌, ◌≤◌, ◌/◌, ◌^◌, ◌%◌};
 
 use crate::disks::{MOST_BYTES, SECTOR};
-use crate::numbers::{eight_at, four_at};
 use crate::sums::sum_of;
+use dm_table::{eight_at, four_at};
 
 /// The magic bytes ` LVM2 x[` and `5A%r0N*>` of a header.
 const MAGIC: u64 = 0x5B78_2032_4D56_4C20;

@@ -4,20 +4,13 @@
 //! have, those that agree with every read so far. If a disk returns other bytes for a sector than before, no contents
 //! agree.
 
-ghost use Rattle.lvm_head.specs.Base.{List, length};
+ghost use Rattle.lvm_head.specs.Base.{AreRead, List, length};
 ghost use Rattle.dm_table.specs.declared.tables.disk_path.DiskPath.{DiskPath};
-ghost use Rattle.lvm_head.specs.Disks.{AreRead, Contents, answer};
+ghost use Rattle.dm_table.specs.declared.io.sectors.TheConstants.{MOST_BYTES, SECTOR};
+ghost use Rattle.lvm_head.specs.Disks.{Contents, answer};
 ghost use Rattle.std.specs.Prelude.{◌≡◌, ◌≤◌, ◌%◌, ◌^◌};
 
-/// The bytes of a sector.
-pub const SECTOR: usize = 512;
-
-/// The most bytes that one read may ask for.
-pub const MOST_BYTES: usize = 65_536;
-
-/// The fault of a read: a sector can't be read, or is past the end of the disk.
-#[derive(Clone, Copy, Debug, PartialEq, Eq, Drop)]
-pub struct ReadFault;
+pub use dm_table::{MOST_BYTES, ReadFault, SECTOR};
 
 /// Disks that can be read, each known by its number.
 pub trait Disks {

@@ -1,15 +1,15 @@
 //! The label of a physical volume, and the header in the label's sector.
 
 ghost use Rattle.lvm_head.specs.Prelude.{true, IfOk, length, map, slice_split, Contents, Returns, area_at, areas_in, has_sectors, header_at, id_of, is_entry, is_member, is_partitioned, is_sound, is_taken, label_of, pairs_of, undivided};
-ghost use Rattle.lvm_head.specs.declared.disks.TheConstants.{SECTOR};
+ghost use Rattle.dm_table.specs.declared.io.sectors.TheConstants.{SECTOR};
 ghost use Rattle.std.specs.Prelude.{◌≡◌, ◌+◌, ◌<◌, ◌≤◌, ◌==◌, ◌-◌, ◌/◌};
 
 use crate::area::Area;
 use crate::disks::{Disks, ReadFault, SECTOR, read_sector};
 use crate::fault::HeadFault;
-use crate::numbers::{eight_at, four_at};
 use crate::sums::sum_of;
 use arrayvec::ArrayVec;
+use dm_table::{eight_at, four_at};
 use std::alloc::{AllocError, Global};
 use std::marker::Model;
 

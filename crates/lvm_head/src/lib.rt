@@ -13,7 +13,6 @@ mod heads;
 mod label;
 mod laws;
 mod message;
-mod numbers;
 mod sums;
 #[cfg(test)]
 mod tests;

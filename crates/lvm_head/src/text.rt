@@ -1,7 +1,7 @@
 //! Reads the metadata text in force from an area.
 
 ghost use Rattle.lvm_head.specs.Prelude.{ℕ, Err, Ok, true, IfErr, IfOk, OnOk, length, slice_index, is_within, Contents, sector_in, Returns, area_text, byte_at, ended, ring_bytes, text_at};
-ghost use Rattle.lvm_head.specs.declared.disks.TheConstants.{MOST_BYTES};
+ghost use Rattle.dm_table.specs.declared.io.sectors.TheConstants.{MOST_BYTES};
 ghost use Rattle.std.specs.Prelude.{◌≡◌, ◌+◌, ◌/◌, ◌%◌, ◌<◌, ◌≤◌, ◌^◌};
 
 use crate::area::{

@@ -1,9 +1,5 @@
 -- The invariant of sections.
-use Rattle.lvm_text.specs.Base.{ℕ, true, List, [], BTreeMap}
-use Rattle.lvm_text.specs.Checks.{twice_lines}
-use Rattle.lvm_text.specs.View.{values_of, lines_agree}
-use Rattle.lvm_text.specs.Positions.{Finds}
-use Rattle.lvm_text.specs.declared.tree.Entry.{Entry}
+use Rattle.lvm_text.specs.Prelude.{ℕ, true, List, [], BTreeMap, twice_lines, values_of, lines_agree, Finds, Entry}
 use Rattle.std.specs.Prelude.{◌≡◌}
 use denote.Ref.{Bor}
 

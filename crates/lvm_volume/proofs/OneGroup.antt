@@ -1,6 +1,5 @@
 -- A metadata text describes exactly one group or has exactly one fault, and never both.
-use Rattle.lvm_volume.proofs.Prelude.{ℕ, Bool, true, false, List, Option, None, Some, inl, inr, refl, sym, ap, ◌∙◌, IsUtf8, is_utf8, IsUtf8-from_is_utf8, is_utf8-from_IsUtf8, TextFault, LoadFault, DeviceSpec, Disk, Source, NotText, Tree, Describes, HasFault, every_text, one_tree, fault_at, first_fault, group_of, DescribesGroup, SaysTree, IsRefusedText, OfText, OfGroup, SaysOneThing, bad_byte_line, metadata_checks, tables_of, text_fault, NotUtf8}
-use Rattle.lvm_text.proofs.Unique.{no_fault as no_text_fault, one_fault as one_text_fault}
+use Rattle.lvm_volume.proofs.Prelude.{ℕ, Bool, true, false, List, Option, None, Some, inl, inr, refl, sym, ap, ◌∙◌, IsUtf8, is_utf8, IsUtf8-from_is_utf8, is_utf8-from_IsUtf8, TextFault, LoadFault, DeviceSpec, Disk, Source, NotText, Tree, Describes, HasFault, every_text, one_tree, fault_at, first_fault, group_of, DescribesGroup, SaysTree, IsRefusedText, OfText, OfGroup, SaysOneThing, bad_byte_line, metadata_checks, tables_of, text_fault, NotUtf8, no_fault as no_text_fault, one_fault as one_text_fault}
 use Rattle.std.specs.Prelude.{◌≡◌, ◌⊎◌}
 
 same_tree : (source : List ℕ) (t u : Tree) → SaysTree source t → SaysTree source u → t ≡ u

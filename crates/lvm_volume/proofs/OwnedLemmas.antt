@@ -1,7 +1,6 @@
 -- Lemmas about the result for a text when images with some of its physical volumes are at hand.
-use Rattle.lvm_volume.proofs.Prelude.{inl, inr, ℕ, suc, Bool, true, false, List, [], length, map, Option, None, Result, Ok, Err, refl, sym, ap, subst, ◌∙◌, codes, IsUtf8, is_utf8, IsUtf8-from_is_utf8, is_utf8-from_IsUtf8, TextFault, Source, Memory, NotText, LoadFault, Tree, sections_of, Describes, HasFault, every_text, one_tree, IsMemoryFault, fault_at, first_fault, first_or, unless, OwnedFault, DiskFault, Group, Keyed, device_of, first_section, group_of, physical_of, Owners, id_in, ids_of, owned_group, physicals_of, untaken, bad_byte_line, metadata_checks, Gives, GivesOneThing, OfTree, OwnedAnswers, Tables, of_load, owned_tables, unless_untaken, group_checks, tables_of, text_fault, unnamed, unless-ok}
+use Rattle.lvm_volume.proofs.Prelude.{inl, inr, ℕ, suc, Bool, true, false, List, [], length, map, Option, None, Result, Ok, Err, refl, sym, ap, subst, ◌∙◌, IsUtf8, is_utf8, IsUtf8-from_is_utf8, is_utf8-from_IsUtf8, TextFault, Source, Memory, NotText, LoadFault, Tree, Describes, HasFault, every_text, one_tree, IsMemoryFault, fault_at, first_fault, first_or, unless, OwnedFault, DiskFault, Group, Keyed, device_of, group_of, physical_of, Owners, id_in, ids_of, owned_group, physicals_of, untaken, bad_byte_line, metadata_checks, Gives, GivesOneThing, OfTree, OwnedAnswers, Tables, of_load, owned_tables, unless_untaken, group_checks, tables_of, text_fault, unnamed, unless-ok, no_fault as no_text_fault, one_fault as one_text_fault}
 use Rattle.lvm_text.specs.declared.fault.TextFault.TheVariants as texts
-use Rattle.lvm_text.proofs.Unique.{no_fault as no_text_fault, one_fault as one_text_fault}
 use Rattle.lvm_volume.specs.declared.owned_metadata.OwnedFault.TheVariants.{Disk, Load}
 use Rattle.lvm_volume.specs.OwnedMetadata.{NotUtf8, OfText}
 use Rattle.lvm_volume.proofs.MetadataLemmas.{last_check}

@@ -1,6 +1,5 @@
 -- Which devices and disks a metadata text gives if images with some of its physical volumes are at hand.
-use Rattle.lvm_volume.specs.Base.{ℕ, List, Option, Some, None, Result, Ok, Err, IsUtf8, Tree, HasFault, TextFault, Source, Memory, NotText, LoadFault, DeviceSpec, IsMemoryFault, fault_at, first_fault, unless, DiskFault}
-use Rattle.dm_table.specs.declared.tables.disk.Disk.{Disk as TableDisk}
+use Rattle.lvm_volume.specs.Base.{ℕ, List, Option, Some, None, Result, Ok, Err, IsUtf8, Tree, HasFault, TextFault, Source, Memory, NotText, LoadFault, DeviceSpec, IsMemoryFault, fault_at, first_fault, unless, DiskFault, Disk as TableDisk}
 use Rattle.lvm_volume.specs.declared.owned_metadata.OwnedFault.{OwnedFault}
 use Rattle.lvm_volume.specs.declared.owned_metadata.OwnedFault.TheVariants.{Disk, Load}
 use Rattle.lvm_volume.specs.group.Group.{group_of}

@@ -1,8 +1,5 @@
 -- The names that contracts use, in this crate and in crates above, in one place.
-pub use Rattle.dm_table.specs.Prelude.{Answers}
-pub use Rattle.dm_table.specs.Std.{IfErr, IfNone, IfOk, IfSome, IsTrue, MatchOption, MatchResult, OnOk, result_err}
-pub use Rattle.lvm_text.specs.Prelude.{content_view, item_view, node_view, scalar_view}
-pub use Rattle.lvm_volume.specs.Base.{AllByRecursion, Bool, Err, IsMemoryFault, IsUtf8, List, Memory, None, NotText, Some, Source, Tree, Unknown, [], bytes_eq, codes, decimal, false, fault_at, first_fault, first_or, flat_map, get_by, is_disk_name, length, list_all, list_any, map, nat_cmp, nat_lt, node_of, not, option_map, range_with_len, scalar_views, sections_of, slice_cmp, slice_index_or, string_bytes, true, unless, unwrap_or, zip, ℕ}
+pub use Rattle.lvm_volume.specs.Base.{AllByRecursion, Answers, Bool, Err, IfErr, IfNone, IfOk, IfSome, IsMemoryFault, IsTrue, IsUtf8, List, MatchOption, MatchResult, Memory, None, NotText, OnOk, Some, Source, Tree, Unknown, [], bytes_eq, codes, content_view, decimal, false, fault_at, first_fault, first_or, flat_map, get_by, is_disk_name, item_view, length, list_all, list_any, map, nat_cmp, nat_lt, node_of, node_view, not, option_and_then, option_map, range_with_len, result_err, scalar_view, scalar_views, sections_of, slice_cmp, slice_index_or, string_bytes, true, unless, unwrap_or, zip, ℕ, ⊤}
 pub use Rattle.lvm_volume.specs.Cuts.{after_hyphen, first_slice, later_slices, slice_length, slices_of, with_layer}
 pub use Rattle.lvm_volume.specs.Metadata.{DescribesGroup, IsRefusedText, NotUtf8, OfGroup, OfText, SaysOneThing, SaysTree, bad_byte_line, metadata_checks}
 pub use Rattle.lvm_volume.specs.NameMessage.{name_message, name_refusal}
@@ -11,21 +8,13 @@ pub use Rattle.lvm_volume.specs.OwnedMetadata.{Gives, GivesOneThing, OfTree, Own
 pub use Rattle.lvm_volume.specs.checks.Extents.{Claim, at_line, claim_on, claims_of, extents_at, have_clash, hit, is_misplaced, is_too_long, is_unknown, least_line, least_line_of, lesser, meets, name_faults, parts_of, segment_faults, size_faults, snapshot_faults, snapshot_faults_in, source_line, stripes_of, unknown_faults, used_after, used_by, volumes_named}
 pub use Rattle.lvm_volume.specs.checks.SegmentCheck.{test_of}
 pub use Rattle.lvm_volume.specs.checks.Used.{Claimed, HasRanges, Holds, claims_by, ranges_of, reaches}
-pub use Rattle.lvm_volume.specs.declared.fault.NameFault.{NameFault}
 pub use Rattle.lvm_volume.specs.declared.fields.reader.FieldReader.{FieldReader}
-pub use Rattle.lvm_volume.specs.declared.group.owners.DiskFault.{DiskFault}
-pub use Rattle.lvm_volume.specs.declared.group.physical.Physical.{Physical}
 pub use Rattle.lvm_volume.specs.declared.group.physical.PhysicalFields.{PhysicalFields}
-pub use Rattle.lvm_volume.specs.declared.group.roles.Record.{Record}
-pub use Rattle.lvm_volume.specs.declared.group.roles.Role.{Role}
-pub use Rattle.lvm_volume.specs.declared.group.segment.Segment.{Segment}
-pub use Rattle.lvm_volume.specs.declared.group.segment.SegmentType.{SegmentType}
-pub use Rattle.lvm_volume.specs.declared.group.segment.Stripe.{Stripe}
 pub use Rattle.lvm_volume.specs.declared.group.volume.Volume.{Volume}
 pub use Rattle.lvm_volume.specs.declared.owned_metadata.OwnedFault.{OwnedFault}
 pub use Rattle.lvm_volume.specs.declared.tables.device_names.Layer.TheVariants.{Cow, Real}
 pub use Rattle.lvm_volume.specs.fields.Checks.{Check, Fields, Limits}
-pub use Rattle.lvm_volume.specs.fields.Fields.{Field, IsChecked, are_pairs, faults_of_fields, field, fields_faults, first_of, group_fields, held, inner_sections, is_asked, is_far, is_far_scalar, is_text, is_wrong, items_at, items_view, load_kind, missing, most, node_faults, number_at, number_in, physical_fields, physicals_faults, section_at, section_view, sections_at, segment_field, segment_fields, segments_of, source_faults, text_at, top_fields, volume_fields, volumes_faults}
+pub use Rattle.lvm_volume.specs.fields.Fields.{IsChecked, are_pairs, faults_of_fields, field, fields_faults, first_of, group_fields, held, inner_sections, is_asked, is_far, is_far_scalar, is_text, is_wrong, items_at, items_view, load_kind, missing, most, node_faults, number_at, number_in, physical_fields, physicals_faults, section_at, section_view, sections_at, segment_field, segment_fields, segments_of, source_faults, text_at, top_fields, volume_fields, volumes_faults}
 unfoldable pub use Rattle.lvm_volume.specs.fields.Fields.{field_faults, group_faults, one_group_faults, volume_faults}
 pub use Rattle.lvm_volume.specs.fields.Kinds.{Always, Kind}
 pub use Rattle.lvm_volume.specs.fields.Steps.{IsPlainStep, IsStep, after, at_key, later_fields, number_kind, numbers_faults, or_first, segments_faults, type_fields}

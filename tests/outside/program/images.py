@@ -75,8 +75,6 @@ def test_maps(tally, program):
     tally.same("the second alone", mapped(program, PAIR[1:]), 0, ANSWER % ("/dev/a", "sdb"))
     names = [("/dev/b", PAIR[0][1]), ("/dev/a", PAIR[1][1])]
     tally.same("names that the text has otherwise", mapped(program, names), 0, ANSWER % ("/dev/b", "/dev/a"))
-    part = program.file("part", bytes(1048576) + PAIR[0][1])
-    tally.same("an offset", mapped(program, [("sda1", part + "?offset=1048576"), PAIR[1]]), 0, ANSWER % ("sda1", "sdb"))
     for place in range(4):
         image = disk("a", area(), place=place)
         image = changed(image, SECTOR, bytes(SECTOR)) if place != 1 else image
@@ -95,6 +93,18 @@ def test_maps(tally, program):
     tally.same("a boot sector that is no table", mapped(program, [("sda", other)]), 0, ANSWER % ("sda", "/dev/b"))
     two = changed(PAIR[0][1], 0, physical_volumes.label([(4096, 65536)], 0, 1 << 20, identity=identity("z")))
     tally.same("the first of two labels", mapped(program, [("sda", two)]), 1, "", told("sda", "foreign"))
+
+
+def test_parts(tally, program):
+    """A disk that is a part of a file which goes on behind it: what lies past the part's end isn't there."""
+    image, first = PAIR[0][1], physical_volumes.FIRST
+    part = program.file("part", bytes(1048576) + image + image) + "?offset=1048576"
+    for length, word in ((len(image), ""), (len(image) + SECTOR, ""), (SECTOR, "read"), (first, "read"), (first + SECTOR, "read"),
+                         (len(image) - SECTOR, "ends")):
+        got = mapped(program, [("sda1", "%s&length=%d" % (part, length)), PAIR[1]])
+        wanted = (1, "", told("sda1", word)) if word else (0, ANSWER % ("sda1", "sdb"))
+        tally.same("a part of %d bytes" % length, got, *wanted)
+    tally.same("an offset alone", mapped(program, [PAIR[1], ("sda1", part)]), 1, "", "dmremap: paths: field at 2\n")
 
 
 def test_commands(tally, program):

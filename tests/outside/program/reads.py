@@ -266,9 +266,11 @@ def test_files(tally, program):
                             ("an empty file", "/dev/null", {}), ("a file that may not be read", secret, {"before": become_nobody})):
         got = read(program, table, "sda 400\n", {"sda": path}, "a", folder=program.folder, **how)
         tally.same("%s as an image" % name, got, 7, bytes(3 * SECTOR), "dmremap: device: read at 3\n")
-    part = program.file("part", bytes(1048576) + contents["sda"])
-    got = read(program, table, "sda 400\n", {"sda": part + "?offset=1048576"}, "a")
-    tally.same("an offset", got, 0, bytes(3 * SECTOR) + contents["sda"][:300 * SECTOR])
+    part = program.file("part", bytes(1048576) + contents["sda"]) + "?offset=1048576&length=%d"
+    for sectors in 300, 299, 128, 1:
+        got = read(program, table, "sda 400\n", {"sda": part % (sectors * SECTOR)}, "a")
+        fault = "dmremap: device: read at %d\n" % (3 + sectors) if sectors < 300 else ""
+        tally.same("a part of %d sectors" % sectors, got, 7 if fault else 0, bytes(3 * SECTOR) + contents["sda"][:sectors * SECTOR], fault)
     fault = "dmremap: output: write\n"
     for name, more in (("all", []), ("a sector", ["--count", "1"]), ("none", ["--count", "0"])):
         got = read(program, table, "sda 400\n", {"sda": contents["sda"]}, "a", *more, stdout=FULL_OUTPUT)

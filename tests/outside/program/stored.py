@@ -26,9 +26,15 @@ MORE_READS = 8
 REFUSED = [(text, message) for message, rows in [
     ("syntax at 1", ["\n", "cow c.img", "cow\n", "cow \n", " cow c.img\n"]),
     ("syntax at 2", ["cow c.img\nbase", "cow c.img\n\n"]),
-    ("field at 1", ["cow c.img?offset=1\n", "cow c.img?offset=511\n", "cow c.img?offset=513\n",
-                    "cow c.img?offset=000000000000000511\n", "cow c.img?offset=999999999999999999\n",
-                    "cow a=b?offset=0?offset=7\n"]),
+    # An offset or a length alone, one within a sector, or that is no number of 1 to 18 digits, and anything else beside them.
+    ("field at 1", ["cow c.img?%s\n" % keys for keys in (
+        "offset=512", "length=512", "offset=", "length=", "offset=0&", "offset=0&length", "offset=0&length=", "offset=&length=512",
+        *("offset=%d&length=512" % it for it in (1, 511, 513, 10 ** 18 - 1, 10 ** 18)),
+        *("offset=512&length=%d" % it for it in (0, 1, 511, 513, 10 ** 18 - 1, 10 ** 18)),
+        "offset=000000000000000511&length=512", "offset=0000000000000000512&length=512", "offset=512&length=0000000000000000512",
+        "offset=+512&length=512", "offset=512&length=-512", "offset=0x200&length=512", "offset=512&length=512 ", "offset=512&length= 512",
+        "length=512&offset=512", "offset=512,length=512", "offset=512&&length=512", "offset=512&length=512&", "offset=512&size=512",
+        "offset=512&length=512&size=512", "offset=512&length=512&offset=512", "offset=512&Length=512", "offset=512&length=512?length=512")]),
     ("name at 1", ["a,b c.img\n", "/dev/mapper/cow c.img\n", "a" * 256 + " c.img\n", "caf\u00e9 c.img\n"]),
     ("twice at 2", ["cow c.img\ncow d.img\n", "none c.img\nnone c.img\n"]),
     ("twice at 3", ["base c.img\ncow c.img\nbase d.img\n"]),
@@ -38,8 +44,8 @@ REFUSED = [(text, message) for message, rows in [
     ("text at 2", [b"cow c.img\n\xc3\n\xa9\n", b"cow c.img\nbase \xed\xa0\x80\n", b"\n\xff"]),
     # Each check is over the whole text, and comes before the next one.
     ("text at 2", [b"none\ncow c\xff\n"]),
-    ("syntax at 2", ["a,b c.img?offset=1\ncow\n"]),
-    ("field at 2", ["a,b c.img\ncow c.img?offset=1\n"]),
+    ("syntax at 2", ["a,b c.img?offset=512\ncow\n"]),
+    ("field at 2", ["a,b c.img\ncow c.img?offset=512\n"]),
     ("name at 2", ["none c.img\na,b c.img\n"]),
     ("twice at 3", ["none c.img\ncow c.img\ncow c.img\n"]),
 ] for text in rows]
@@ -180,19 +186,21 @@ def endless(path, line):
 
 
 def test_places(tally, program):
-    """Where a disk lies: a file by any path, and a byte of it."""
+    """Where a disk lies: a file by any path, and a part of it."""
+    size = end_of(8, 1) * SECTOR
     for name, text, file, start in [
             ("a path with spaces", "cow two  words .img\n", "two  words .img", 0),
             ("a path in UTF-8", "cow caf\u00e9.img\n", "caf\u00e9.img", 0),
             ("a path with a question mark", "cow a?b=c.img\n", "a?b=c.img", 0),
-            ("an offset of 0", "cow c.img?offset=0\n", "c.img", 0),
-            ("an offset with zeros before it", "cow c.img?offset=000000000000000512\n", "c.img", 512),
-            ("an offset", "cow c.img?offset=1048576\n", "c.img", 1048576),
-            ("19 digits", "cow c.img?offset=0000000000000000512\n", "c.img?offset=0000000000000000512", 0),
-            ("no digits", "cow c.img?offset=\n", "c.img?offset=", 0),
-            ("a sign", "cow c.img?offset=+512\n", "c.img?offset=+512", 0),
+            ("a path with another key", "cow c.img?size=512&offset=512\n", "c.img?size=512&offset=512", 0),
+            ("a path with a question mark after a part", "cow c.img?offset=512&length=512?\n", "c.img?offset=512&length=512?", 0),
+            ("a path with a key and no question mark", "cow offset=512\n", "offset=512", 0),
+            ("an offset of 0", "cow c.img?offset=0&length=%d\n" % size, "c.img", 0),
+            ("numbers with zeros before them", "cow c.img?offset=000000000000000512&length=%018d\n" % size, "c.img", 512),
+            ("a part", "cow c.img?offset=1048576&length=%d\n" % size, "c.img", 1048576),
+            ("a part past the file's end", "cow c.img?offset=512&length=999999999999999488\n", "c.img", 512),
             ("other letters", "cow c.img?Offset=512\n", "c.img?Offset=512", 0),
-            ("two offsets", "cow c.img?offset=0?offset=512\n", "c.img?offset=0", 512),
+            ("a part of a file that is called as one", "cow c.img?offset=0?offset=512&length=%d\n" % size, "c.img?offset=0", 512),
             ("a long path", "cow %s/c.img\n" % ("." + "/." * 1000), "c.img", 0)]:
         put(program, file, 8, [(1, 2)], start=start)
         got = stored(program, TABLE % (800, 8), DISKS % (800, 4000), text, "R s 8 1\nR s 16 1\n")
@@ -205,7 +213,7 @@ def test_places(tally, program):
     paths = "".join("d%d none\n" % it for it in range(1022)) + "base none\ncow c.img\n"
     got = stored(program, TABLE % (800, 8), others + DISKS % (800, 4000), paths, "R s 8 1\n")
     tally.same("the store at the last of 1,024 paths", got, 0, "1 R cow 16 1\n")
-    got = stored(program, TABLE % (800, 8), DISKS % (800, 4000), "cow c.img?offset=999999999999999488\n")
+    got = stored(program, TABLE % (800, 8), DISKS % (800, 4000), "cow c.img?offset=999999999999999488&length=512\n")
     tally.same("the greatest offset", got, 1, "", told("read"))
     got = stored(program, TABLE % (800, 8), DISKS % (800, 4000), "", "R s 8 1\n")
     tally.same("no path at all", got, 1, "", told("missing"))
@@ -299,6 +307,12 @@ def test_images(tally, program):
                 tally.same("an image of %d sectors and %d bytes" % (sectors, more), got, 0, "1 R cow %d 1\n" % (place(8, 299) * 8))
             else:
                 tally.same("an image of %d sectors and %d bytes" % (sectors, more), got, 1, "", told("read"))
+        if sectors:
+            put(program, "c.img", 8, pairs, start=SECTOR)
+            part = "cow c.img?offset=512&length=%d\n" % (sectors * SECTOR)
+            got = stored(program, TABLE % (8000, 8), DISKS % (8000, 8000), part, "R s 0 1\n")
+            wanted = (0, "1 R cow %d 1\n" % (place(8, 299) * 8)) if is_read else (1, "", told("read"))
+            tally.same("a part of %d sectors" % sectors, got, *wanted)
     folder = os.path.join(program.folder, "folder")
     os.makedirs(folder, exist_ok=True)
     pipe = os.path.join(program.folder, "image.pipe")
@@ -306,7 +320,7 @@ def test_images(tally, program):
         os.mkfifo(pipe)
     secret = put(program, "secret.img", 8, [(1, 2)])
     os.chmod(secret, 0)
-    for name, path, how in (("a folder", folder, {}), ("a pipe", pipe, {}), ("no file", "missing", {}), ("an empty path", "?offset=0", {}),
+    for name, path, how in (("a folder", folder, {}), ("a pipe", pipe, {}), ("no file", "missing", {}), ("an empty path", "?offset=0&length=512", {}),
                             ("a device of characters", "/dev/zero", {}), ("a file as a folder", "c.img/c", {}),
                             ("a file that may not be read", secret, {"before": become_nobody})):
         got = stored(program, TABLE % (800, 8), DISKS % (800, 4000), "cow %s\n" % path, "R s 8 1\n", **how)

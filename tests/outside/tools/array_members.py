@@ -104,7 +104,7 @@ class ArrayMembers(Case):
             self.found("an older half after the newer, version " + version, wanted, ("b", newer), ("a", older))
         other = md_member(bytes(1 << 16), 16, level=1, events=99, array=b"another array...")
         self.program.file("members/c", other)
-        self.program.file("members/paths", "{0} {1}/a?offset=8192\n/dev/sdb1 {1}/c?offset=8192\n".format(NAME, self.folder))
+        self.program.file("members/paths", "{0} {1}/a?offset=8192&length=131072\n/dev/sdb1 {1}/c?offset=8192&length=65536\n".format(NAME, self.folder))
         self.program.file("members/a", md_member(VOLUME, 16, level=1))
         self.program.file("members/table", "v: 0 8 linear %s 8\n" % NAME)
         self.program.file("members/disks", NAME + " 256\n/dev/sdb1 256\n")
@@ -112,7 +112,7 @@ class ArrayMembers(Case):
         got = self.call(*words)
         self.holds("halves of two arrays", got.status == 0, got.err)
         self.program.file("members/b", md_member(VOLUME, 16, level=1, events=8))
-        self.program.file("members/paths", "{0} {1}/a?offset=8192\n/dev/sdb1 {1}/b\n".format(NAME, self.folder))
+        self.program.file("members/paths", "{0} {1}/a?offset=8192&length=131072\n/dev/sdb1 {1}/b\n".format(NAME, self.folder))
         got = self.call(*words)
         self.refuses("an older half among disks", got, "{0} layout: {1}/a: {2}".format(TOOL, self.folder, OLDER % (7, self.folder + "/b", 8)))
 
@@ -126,7 +126,7 @@ class ArrayMembers(Case):
         # The superblock of the last partition is where that of the disk would be, and the volume lies on the first one.
         last = md_old_member(bytes(1 << 16), level=5, count=3)
         disk = physical_volumes.mbr((0x8E, 128, 256), (0xFD, 384, len(last) // SECTOR)).ljust(128 * SECTOR, b"\0") + VOLUME + last
-        self.read("a volume before a partition of an array", None, "a?offset=65536", made=[("a", disk)])
+        self.read("a volume before a partition of an array", None, "a?offset=65536&length=131072", made=[("a", disk)])
 
     def test_places(self):
         """Each command that takes places, of a member of raid5 whose first chunk has the label, and of one of raid1."""
@@ -138,7 +138,7 @@ class ArrayMembers(Case):
         }
         for level, start in ((5, 16), (5, 17), (5, 4), (1, 16)):
             self.program.file("members/a", md_member(VOLUME, 16, level=level, count=3))
-            self.program.file("members/paths", "%s %s?offset=%d\n" % (NAME, os.path.join(self.folder, "a"), start * SECTOR))
+            self.program.file("members/paths", "%s %s?offset=%d&length=131072\n" % (NAME, os.path.join(self.folder, "a"), start * SECTOR))
             for name, words in commands.items():
                 with contextlib.suppress(FileNotFoundError):
                     os.remove(os.path.join(self.folder, "out"))
@@ -157,19 +157,19 @@ class ArrayMembers(Case):
             self.program.file("members/m%d" % place, bytes(2048 * SECTOR) + md_member(content, 16, level=0, role=place))
         self.program.file("members/table", "v: 0 32 striped 2 16 /dev/sda1 16 /dev/sdb1 16\n")
         self.program.file("members/disks", "/dev/sda1 32\n/dev/sdb1 32\n")
-        self.program.file("members/paths", "/dev/sda1 m0?offset=1048576\n/dev/sdb1 m1?offset=1048576\n")
+        self.program.file("members/paths", "/dev/sda1 m0?offset=1048576&length=16384\n/dev/sdb1 m1?offset=1048576&length=16384\n")
         got = self.call("save", "--program", self.program.path, "--paths", "paths", "v", "out", "table", "table", "disks")
         self.holds("an array by its members", got.status == 0 and read(os.path.join(self.folder, "out")) == b"".join(contents), got.err)
         os.remove(os.path.join(self.folder, "out"))
         for version, made, start in VERSIONS:
             for level, place, message in ((1, start, ""), (5, 0, PARTS), (5, start, PARTS)) + ((1, 0, "/dev/md0 is an array, and this place is in a member "
-                                          "of one whose data begins at byte %d: give that, as IMAGE?offset=BYTES" % (start * SECTOR)),) * bool(start) + ((1, start + 8, "/dev/md0 is an "
-                                          "array, and this place is in a member of one whose data begins at byte %d: give that, as IMAGE?offset=BYTES"
+                                          "of one whose data begins at byte %d: give that, as IMAGE?offset=BYTES&length=BYTES" % (start * SECTOR)),) * bool(start) + ((1, start + 8, "/dev/md0 is an "
+                                          "array, and this place is in a member of one whose data begins at byte %d: give that, as IMAGE?offset=BYTES&length=BYTES"
                                           % (start * SECTOR)),):
                 self.program.file("members/a", made(VOLUME, level=level, count=3))
                 self.program.file("members/table", "v: 0 8 linear /dev/md0 8\n")
                 self.program.file("members/disks", "/dev/md0 256\n")
-                self.program.file("members/paths", "/dev/md0 a%s\n" % ("?offset=%d" % (place * SECTOR) if place else ""))
+                self.program.file("members/paths", "/dev/md0 a%s\n" % ("?offset=%d&length=131072" % (place * SECTOR) if place else ""))
                 got = self.call("save", "--program", self.program.path, "--paths", "paths", "v", "out", "table", "table", "disks")
                 title = "the disk of an array at sector %d of a member of level %d, version %s" % (place, level, version)
                 if message:

@@ -143,7 +143,7 @@ def test_gaps(tally, program, top):
     tally.holds("its last map", read(disks.target("map")).decode() == MAP % (sectors, ids, SECTOR * 48, "+") + text, read(disks.target("map")))
 
 
-WHOLE = "dmremap-tools save: %s: the image of a whole disk (%s), and p has %d sectors: give the partition that it is, as IMAGE?offset=BYTES\n"
+WHOLE = "dmremap-tools save: %s: the image of a whole disk (%s), and p has %d sectors: give the partition that it is, as IMAGE?offset=BYTES&length=BYTES\n"
 
 
 def test_whole_disks(tally, program, top):
@@ -168,7 +168,7 @@ def test_whole_disks(tally, program, top):
             tally.holds("what is saved from " + name, read(target) == image[:8 * SECTOR], "it is another")
             os.unlink(target)
     path = program.file("save/disk", gpt.ljust(40 * SECTOR, b"\0") + bytes(range(256)) * 112)
-    listed = program.file("save/paths", "p %s?offset=%d\n" % (path, 40 * SECTOR))
+    listed = program.file("save/paths", "p %s?offset=%d&length=%d\n" % (path, 40 * SECTOR, 56 * SECTOR))
     for form, more in (("table", [program.file("save/disks", "p 56\n")]), ("lvm", [])):
         source = program.file("save/source", "v: 0 8 linear p 0\n" if more else physical_volumes.one_volume(("p", "", 56, 0)))
         target = os.path.join(program.folder, "save", "of partition " + form)
@@ -183,7 +183,7 @@ OF_VOLUME = physical_volumes.one_volume(("p", "", 56, 0, OWN))
 PHYSICAL, BESIDE = (physical_volumes.volume(length=56 * SECTOR, identity=it) for it in IDENTITIES)
 BOTH = "the disk has a partition table (MBR) as well, which was made later, so that others may have written there: to take it as it was, take the table out " \
        "of a copy (dd if=/dev/zero of=COPY count=1 conv=notrunc)"
-UNLABELLED = "the image of a whole disk (GPT), none of whose partitions (1) has a sound label: give the partition that it is, as IMAGE?offset=BYTES"
+UNLABELLED = "the image of a whole disk (GPT), none of whose partitions (1) has a sound label: give the partition that it is, as IMAGE?offset=BYTES&length=BYTES"
 
 
 def test_labels(tally, program, top):
@@ -202,20 +202,25 @@ def test_labels(tally, program, top):
             ("the head of a disk", physical_volumes.mbr((0x83, 8, 8), (0x8E, 400, 56)) + bytes(99 * SECTOR), None,
              UNLABELLED.replace("GPT", "MBR").replace("1", "1, 2"))):
         path, target = program.file("save/disk", image), os.path.join(program.folder, "save", "of label")
-        listed = program.file("save/paths", "p %s%s\n" % (path, "" if begin is None else "?offset=%d" % (begin * SECTOR)))
+        listed = program.file("save/paths", "p %s%s\n" % (path, "" if begin is None else "?offset=%d&length=28672" % (begin * SECTOR)))
         source = program.file("save/source", OF_VOLUME)
         got = tool_calls.call(top, ["save", "--program", program.path, "--paths", listed, "g-v", target, "lvm", source])
         tally.same("saving by labels, " + name, got, 1 if what else 0, "", "dmremap-tools save: %s: %s\n" % (path, what) if what else "")
         if not what and tally.holds("a file by labels, " + name, os.path.exists(target), "it isn't there"):
             tally.holds("what is saved by labels, " + name, read(target) == image[begin * SECTOR:(begin + 8) * SECTOR], "it is another")
             os.unlink(target)
-    for figures, told in ((18, path + " ends at byte 0"), (19, "%s?offset=%s: No such file or directory" % (path, "9" * 19))):
-        target = os.path.join(program.folder, "save", "far %d" % figures)
-        words = [program.file("save/table", "v: 0 8 linear p 0\n"), program.file("save/disks", "p 64\n")]
-        listed = program.file("save/paths", "p %s?offset=%s\n" % (path, "9" * figures))
+    words = [program.file("save/table", "v: 0 8 linear p 0\n"), program.file("save/disks", "p 64\n")]
+    for keys, size in (("offset=999999999999999488&length=4096", 0), ("offset=512&length=1024", 1024)):
+        listed, target = program.file("save/paths", "p %s?%s\n" % (path, keys)), os.path.join(program.folder, "save", "past " + keys)
         got = tool_calls.call(top, ["save", "--program", program.path, "--paths", listed, "v", target, "table", *words])
-        tally.same("saving from a place of %d figures" % figures, got, 1, "", "dmremap-tools save: v: %s; or give --resume MAP to save the rest: the map says "
-                   "then what is missing\n" % told)
+        tally.same("saving from the part " + keys, got, 1, "", "dmremap-tools save: v: %s ends at byte %d; or give --resume MAP to save the rest: the map says "
+                   "then what is missing\n" % (path, size))
+    for keys in ("offset=512", "length=512", "offset=512&length=0", "offset=511&length=512", "offset=512&length=513", "offset=512&size=512",
+                 "length=512&offset=512", "offset=1000000000000000000&length=512"):
+        listed, target = program.file("save/paths", "p %s?%s\n" % (path, keys)), os.path.join(program.folder, "save", "of no part")
+        got = tool_calls.call(top, ["save", "--program", program.path, "--paths", listed, "v", target, "table", *words])
+        tally.same("saving from no part, %s" % keys, got, 1, "", "dmremap-tools save: %s:1: not a part of a file, give PATH?offset=BYTES&length=BYTES, "
+                   "both multiples of 512: p %s?%s\n" % (listed, path, keys))
 
 
 def test_edges(tally, program, top):

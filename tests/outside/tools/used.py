@@ -108,8 +108,9 @@ def test_refused(case):
     for path in "pipe", "/dev/zero":
         case.put("away", "cow %s\n" % path)
         case.refused("a store in " + path, path + ": neither a file nor a disk: give an image of the disk", ["--paths", "away"])
-    case.put("away", "cow image?offset=100\n")
-    case.refused("a place within a sector", "--paths: cow begins at byte 100, within a sector: give a multiple of 512", ["--paths", "away"])
+    case.put("away", "cow image?offset=100&length=512\n")
+    case.refused("a place within a sector", "away:1: not a part of a file, give PATH?offset=BYTES&length=BYTES, both multiples of 512: "
+                 "cow image?offset=100&length=512", ["--paths", "away"])
     case.put("away", "cows image\n")
     case.refused("a path of no disk", "away: no disk is called cows: give a name that the tables have", ["--paths", "away"])
     case.put("away", b"cow b\xff\n")
@@ -139,7 +140,7 @@ def test_places(case):
     case.put("y.img", b"x" * 1024 + columns[1])
     case.put("striped", "c: 0 160 striped 2 4 x 10 y 0\ns: 0 64 snapshot base /dev/mapper/c P 8\n")
     case.put("striped.disks", "base 64\nx 90\ny 80\n")
-    case.put("striped.paths", "x x.img\ny y.img?offset=1024\n")
+    case.put("striped.paths", "x x.img\ny y.img?offset=1024&length=40960\n")
     case.same("a store on two disks", "0 4 x 22\n4 4 y 12\n8 16 base 8\n24 4 x 18\n28 4 y 8\n32 32 base 32\n",
               words=["--paths", "striped.paths"], source=("table", "striped", "striped.disks"))
     # Of the area of the list, the first sectors lie on x and the others on y.
@@ -169,11 +170,11 @@ def test_places(case):
     got = case.call(["--paths", "group.paths"], ("lvm", "group.ids"), "vg0-snap")
     case.tally.holds("used: a group on a partition", got.status == 0 and got.out.decode().startswith(extents) and got.err.decode() == told, "%r, %r" % (got.out[:200], got.err))
     case.refused("a group without ids on a partition", "whole.img: the image of a whole disk (GPT), and /dev/sda1 has 1050624 sectors: give the "
-                 "partition that it is, as IMAGE?offset=BYTES", ["--paths", "group.paths"], ("lvm", "group"), "vg0-snap")
+                 "partition that it is, as IMAGE?offset=BYTES&length=BYTES", ["--paths", "group.paths"], ("lvm", "group"), "vg0-snap")
     case.put("cow.img", gpt((64, 223)).ljust(64 * SECTOR, b"\0") + content)
     case.put("whole.paths", "cow cow.img\n")
     case.refused("a whole disk for a partition", "cow.img: the image of a whole disk (GPT), and cow has 160 sectors: give the partition "
-                 "that it is, as IMAGE?offset=BYTES", ["--paths", "whole.paths"])
+                 "that it is, as IMAGE?offset=BYTES&length=BYTES", ["--paths", "whole.paths"])
     case.put("hole.img", store(PAIRS)[:8 * SECTOR])
     case.put("hole", "c: 0 8 linear z 0\nc: 8 152 linear z 8\ns: 0 64 snapshot base /dev/mapper/c P 8\n")
     case.put("hole.disks", "base 64\nz 160\n")

@@ -17,7 +17,7 @@ SHORT = 25
 REQUEST = "R or W, a device, a sector, and from 1 to 1,048,576 sectors, with single spaces between and a newline behind"
 LINE = "a line is NAME: START LENGTH TARGET WORD .., with single spaces between and a newline behind"
 DISK = "a line is a disk, a space and its sectors, with a newline behind"
-LISTED = "a line is a disk, a space and a path, perhaps with ?offset=BYTES, with a newline behind"
+LISTED = "a line is a disk, a space and a path, perhaps with ?offset=BYTES&length=BYTES, with a newline behind"
 GROUP = "the text of one group, as vgcfgbackup writes it, with linear and striped volumes and snapshots of these"
 NAME = "a group and a volume of letters, digits and +_.-, neither of which begins with a hyphen, up to 127 bytes in all"
 HEADS = "whole images of the physical volumes of one group, in one state"
@@ -47,7 +47,8 @@ ALLOWED = {
 # The same where a message is about something else, by the part and the word.
 OF_PART = {
     ("source", "syntax"): LINE, ("disks", "syntax"): DISK, ("disks", "field"): DISK, ("paths", "syntax"): LISTED,
-    ("paths", "field"): "an offset is in bytes, and a multiple of 512", ("paths", "text"): "a path is UTF-8",
+    ("paths", "field"): "a part has an offset and a length, in bytes, and multiples of 512",
+    ("paths", "text"): "a path is UTF-8",
     ("paths", "unknown"): "PATHS names disks of the tables",
     ("request", "unknown"): "a device that FILE has, by its name",
     ("request", "not top"): "with `replay`, a device on which no other one lies",

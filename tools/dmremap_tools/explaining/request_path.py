@@ -372,5 +372,6 @@ def _tables_on_images(loaded: Stack, listed: Optional[str]) -> Tables:
     source.disks.update((disk, Missing(disk, size * SECTOR)) for disk, size in loaded.sizes.items())
     for disk, place in places.items():
         with contextlib.suppress(Refusal):
-            source.disks[disk] = DiskPart(disk, Image(place.path), place.start, loaded.sizes[disk] * SECTOR)
+            size = min(place.length, loaded.sizes[disk] * SECTOR)
+            source.disks[disk] = DiskPart(disk, Image(place.path), place.start, size)
     return source

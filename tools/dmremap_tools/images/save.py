@@ -135,9 +135,7 @@ def disk_at(name: str, place: DiskPlace, unread: Dict[str, List[Run]]) -> Device
         why = refusal.why
     if why:
         return Absent(name, f"{quoting.shown(place.path)}: {why}")
-    # They may begin within a sector of the image.
-    image.size = image.bytes
-    return Part(image.name, image, place.start, max(0, image.bytes - place.start) // SECTOR * SECTOR)
+    return Part(image.name, image, place.start, min(place.length, max(0, image.size - place.start)))
 
 
 def sum_of(part: loaded_stack.Stack) -> str:

@@ -65,10 +65,10 @@ def run(words: argparse.Namespace) -> None:
         pile.search()
         volumes += pile.volumes
     parts = [spot.device for spot in pile.spots() if spot.image] if not volumes else []
-    for image, start in ((image, place.start) for place, image in zip(places, images) if place.is_said):
-        if start >= image.bytes:
-            raise Refusal(image.name, f"it ends before byte {start}: give a lower offset, or more of the disk")
-        parts.append(Part(image.name, image, start, max(0, image.size - start)))
+    for image, place in ((image, place) for place, image in zip(places, images) if place.is_said):
+        if place.start >= image.bytes:
+            raise Refusal(image.name, f"it ends before byte {place.start}: give a lower offset, or more of the disk")
+        parts.append(Part(image.name, image, place.start, min(place.length, max(0, image.size - place.start))))
     volumes += filter(None, map(volume_of, parts))
     if len(volumes) > 1 and is_of_one:
         raise Refusal(images[0].name, "it has several physical volumes: take one, as HEAD?offset=BYTES")

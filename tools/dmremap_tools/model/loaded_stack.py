@@ -117,7 +117,7 @@ def start(words: argparse.Namespace, source: Given, devices: Optional[Iterable[s
             if stat.S_ISBLK(os.stat(place.path).st_mode):
                 streams.tell(IN_USE.format(quoting.shown(place.path)))
         command += ["--paths", os.path.join(folder, "PATHS")]
-        put(command[-1], (paths.line(disk, place.path, place.start) for disk, place in here.items()))
+        put(command[-1], (paths.line(disk, place.path, place.start, place.length) for disk, place in here.items()))
         try:
             found = store_places.chunks_in(command, snapshots)
         except store_places.RefusedStore as refusal:

@@ -390,7 +390,7 @@ def found_within(device: Image) -> Within:
                 members += filter(None, [md_superblock.placed(content, begin)])
         heads += (at + text.at for text in _beginnings(window))
         at = image.next_data(at + WINDOW)
-    parts = [Part(f"{device.name}?offset={it}", device, it, device.size - it)
+    parts = [Part(paths.part(device.name, it, device.size - it), device, it, device.size - it)
              for it in dict.fromkeys(begins) if it >= 0]
     volumes = [it for it in (volume_in(part, part.start) for part in parts) if it]
     others = {it for it in heads if all(not 0 <= it - each.start < each.size for each in volumes)}
@@ -403,7 +403,8 @@ def read_by_heads(given: Optional[str], command: str, devices: Iterable[Device],
     may be given, prints of them: that is proved. None where it takes them not, or isn't there."""
     with contextlib.suppress(Refusal), tempfile.NamedTemporaryFile(prefix="dmremap-tools-") as listed:
         asked, runs = program.dmremap(given), [whole_run(device) for device in devices]
-        lines = [paths.line(f"disk{number}", path_of(run[0]), run[1]) for number, run in enumerate(runs) if run]
+        lines = [paths.line(f"disk{number}", path_of(run[0]), *(run[1:] if run[1:] != (0, run[0].size) else ()))
+                 for number, run in enumerate(runs) if run]
         put(listed.name, lines)
         printed, _, status = program.ask([asked, command, "images", listed.name, *more]) if all(runs) else ("", "", 1)
         return (lines, printed.encode("utf-8", "surrogateescape")) if lines and not status else None

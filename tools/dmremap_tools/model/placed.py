@@ -16,13 +16,14 @@ from dmremap_tools.model.pile import Pile
 
 # What tables call an array, and a partition of one.
 ARRAY, PARTITION = re.compile(r"(?:/dev/)?md(?:_?d?\d+(?:p\d+)?|/.+)|9:\d+"), re.compile(r".*p\d+")
-GIVE = "give the partition that it is, as IMAGE?offset=BYTES"
+GIVE = "give the partition that it is, as IMAGE?offset=BYTES&length=BYTES"
 PARTS = ("a member of an md array that isn't raid1, so that no member has all of a physical volume: give the images of "
          "all members to `save GROUP/VOLUME OUT IMAGE..`, which puts it together")
 CHANGING = ("a member of an md array that is a spare, or is being filled or reshaped, so that it doesn't have the "
             "array's bytes: take another member")
 BAD = "a member of an md array that has bad blocks, which a kernel reads from another one: take that"
-NO_VOLUME = "a member of an md array in which the physical volume isn't found: give its place, as IMAGE?offset=BYTES"
+NO_VOLUME = ("a member of an md array in which the physical volume isn't found: give its place, as "
+             "IMAGE?offset=BYTES&length=BYTES")
 OLDER = ("a member of an md array that was away when others changed: it has the count of events {}, and {} has {}: "
          "take that")
 
@@ -91,7 +92,7 @@ def place_of_volume(pile: Pile, image: Image, name: str, identity: bytes, place:
         why = whys.get(mine)
         if why:
             raise Refusal(image.name, why)
-        return DiskPlace(place.path, mine, True)
+        return DiskPlace(place.path, mine, True, place.start + place.length - mine)
     if found:
         wrong, ids = f"it isn't {quoting.shown(name)}, whose id is {shown(identity)}", map(shown, found.values())
         raise Refusal(image.name, f"{wrong}, but has the id {' or '.join(ids)}: give the path of that")
@@ -128,7 +129,8 @@ def check_places(places: Dict[str, DiskPlace], pile: Pile, are_volumes: bool = F
                 is_array_place = is_array and not are_volumes and (is_behind or is_beginning)
                 if is_array_place and place.start != data and not PARTITION.fullmatch(name):
                     raise Refusal(quoting.shown(place.path), f"{quoting.shown(name)} is an array, and this place is in "
-                                  f"a member of one whose data begins at byte {data}: give that, as IMAGE?offset=BYTES")
+                                  f"a member of one whose data begins at byte {data}: give that, as "
+                                  "IMAGE?offset=BYTES&length=BYTES")
 
 
 def md_member_fault(member: Member, pile: Pile) -> Optional[str]:

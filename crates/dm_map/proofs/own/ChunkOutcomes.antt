@@ -1,10 +1,9 @@
 -- The three outcomes of taking a chunk, with the facts of each: nothing is done, the chunk is taken, or the snapshot is lost. The state still fits the stack.
-use Rattle.dm_map.proofs.Prelude.{inl, inr, ℕ, zero, suc, Bool, true, false, cond, not, [], length-append, Some, length, refl, sym, ap, ◌∙◌, arith, is_some, and_parts, cases_eq, cases_lt, le-leb, leb-true, not-false, not-true, or_parts, length-set, ResolvedSnapshot, Lower, Device, Disk, Below, Lies, IsZero, IsError, Description, IsFitting, by_below, read_below, read_unit, number_in, has_place, any_error, can_take, count_of, first_of, is_error, is_settled, read, reads_all, take_chunk, row, lost, put, with_chunk, State, Taken, taken_at, Step, keep, snapshot_at, BlockUnit, ReadOf, Zeros, Fails}
-use Rattle.dm_stack.specs.declared.checks.graph.TheConstants.{MOST_DEPTH}
+use Rattle.dm_map.proofs.Prelude.{inl, inr, ℕ, zero, suc, Bool, true, false, cond, not, [], length-append, Some, length, refl, sym, ap, ◌∙◌, arith, is_some, and_parts, cases_eq, cases_lt, le-leb, leb-true, not-false, not-true, or_parts, length-set, ResolvedSnapshot, Lower, Device, Disk, Below, Lies, IsZero, IsError, Description, IsFitting, by_below, read_below, read_unit, number_in, has_place, any_error, can_take, count_of, first_of, is_error, is_settled, read, reads_all, take_chunk, row, lost, put, with_chunk, State, Taken, taken_at, Step, keep, snapshot_at, BlockUnit, ReadOf, Zeros, Fails, MOST_DEPTH}
 use Rattle.dm_map.proofs.own.Plays.{IsReadable, Reads, AreZeros}
 use Rattle.dm_map.proofs.walk.ChunkTaking.{none_of, taken_other, taken_same}
 use Rattle.dm_map.proofs.own.Takes.{IsTake, chunk_copies, new_number, taken_state}
-use Rattle.std.specs.Prelude.{◌≡◌, ◌⊎◌, ◌+◌, ◌<◌, ◌≤◌, ◌∷◌, ◌++◌}
+use Rattle.std.specs.Prelude.{◌≡◌, ◌+◌, ◌<◌, ◌≤◌, ◌∷◌}
 
 -- The unit of a read is a disk's read, zeros, or an error
 

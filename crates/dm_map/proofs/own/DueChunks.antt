@@ -1,6 +1,5 @@
 -- The chunks due for a write: the write leaves the state that taking them leaves, and each is a chunk of a snapshot of the stack.
-use Rattle.dm_map.proofs.Prelude.{ℕ, zero, suc, Bool, true, false, cond, List, [], Option, Some, None, refl, sym, ap, ◌∙◌, arith, AllByRecursion, div-mul-le_self, Lower, Device, Disk, ResolvedLine, ResolvedOver, ResolvedTarget, Below, Lies, below_plain, found_at, Description, device_len, is_ro_at, lower_len, IsSound, Due, due_at_line, due_at_target, due_in, due_over, State, taken_at, snapshot_at, write_line, write_step, write_target, by_below, IsOver, serve, is_refused, take_chunk, unit_in_store, Step, keep, and_then, Drops, Fails, all_append}
-use Rattle.dm_stack.specs.declared.lines.resolved_line.ResolvedTarget.TheVariants as founds
+use Rattle.dm_map.proofs.Prelude.{ℕ, zero, suc, Bool, true, false, cond, List, [], Option, Some, None, refl, sym, ap, ◌∙◌, arith, AllByRecursion, div-mul-le_self, Lower, Device, Disk, ResolvedLine, ResolvedOver, ResolvedTarget, Below, Lies, below_plain, found_at, Description, device_len, is_ro_at, lower_len, IsSound, Due, due_at_line, due_at_target, due_in, due_over, State, taken_at, snapshot_at, write_line, write_step, write_target, by_below, IsOver, serve, is_refused, take_chunk, unit_in_store, Step, keep, and_then, Drops, Fails, all_append, Origin, Snapshot}
 use Rattle.dm_map.proofs.state.ResolvedLines.{line_origin, line_snapshot, line_sound, origin_sound}
 use Rattle.dm_map.proofs.walk.Overs.{overs}
 use Rattle.std.specs.Prelude.{◌≡◌, ◌-◌, ◌*◌, ◌/◌, ◌<◌, ◌∷◌, ◌++◌}
@@ -41,10 +40,10 @@ unless_leaves stack false state step dues leaves = leaves
 target_leaves : (stack : Description) (state : State) (device : ℕ) (target : ResolvedTarget) (distance : ℕ) (next : Lower → State → ℕ → Step) (due : Lower → State → ℕ → List Due) → Leaves stack next due
     → (write_target stack state device target distance next).state ≡ all_taken stack state (due_at_target stack state device target distance due)
 unfolding Leaves
-target_leaves stack state device (founds.Snapshot snapshot) distance next due leaves =
+target_leaves stack state device (Snapshot snapshot) distance next due leaves =
     let made = take_chunk stack snapshot device (distance / snapshot.chunk) state in
     unless_leaves stack (is_refused stack snapshot (taken_at state device) (distance / snapshot.chunk)) state (and_then made (λ after. keep (unit_in_store stack snapshot device after distance ∷ []) after)) (record { device = device; snapshot = snapshot; chunk = distance / snapshot.chunk } ∷ []) refl
-target_leaves stack state device (founds.Origin origin) distance next due leaves =
+target_leaves stack state device (Origin origin) distance next due leaves =
     let served = (serve stack origin.over distance state).state in
     leaves origin.to served distance
     ∙ ap (λ (after : State). all_taken stack after (due origin.to served distance)) (serve_taken stack origin.over distance state)
@@ -92,13 +91,13 @@ unless_due stack false dues all = all
 target_due : (stack : Description) (state : State) (device sector : ℕ) (line : ResolvedLine) (target : ResolvedTarget) (due : Lower → State → ℕ → List Due) → IsSound stack → AreAllDue stack due → found_at stack device sector ≡ Some line → line.target ≡ target
     → AllByRecursion (IsDue stack) (due_at_target stack state device target (sector - line.start) due)
 unfolding AreAllDue
-target_due stack state device sector line (founds.Snapshot snapshot) due sound each is target =
+target_due stack state device sector line (Snapshot snapshot) due sound each is target =
     let over = line_snapshot stack device sector line snapshot sound is target in
     let inside = (line_sound stack device sector line sound is).inside in
     let first = div-mul-le_self (sector - line.start) snapshot.chunk in
     unless_due stack (is_refused stack snapshot (taken_at state device) ((sector - line.start) / snapshot.chunk)) (record { device = device; snapshot = snapshot; chunk = (sector - line.start) / snapshot.chunk } ∷ [])
     (record { is = over.1; inside = omega (arith, first, inside) }, tt)
-target_due stack state device sector line (founds.Origin origin) due sound each is target =
+target_due stack state device sector line (Origin origin) due sound each is target =
     let over = line_origin stack device sector line origin sound is target in
     let soundly = (origin_sound stack device origin sound over.1).soundly in
     let inside = (line_sound stack device sector line sound is).inside in

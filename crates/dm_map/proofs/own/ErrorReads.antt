@@ -1,6 +1,5 @@
 -- A read fails exactly if its path meets an `error` line or a lost snapshot.
-use Rattle.dm_map.proofs.Prelude.{ℕ, Bool, true, false, cond, List, [], Option, Some, None, length, refl, sym, ap, ◌∙◌, arith, slice_get, Lower, Device, Disk, ResolvedColumn, ResolvedLine, ResolvedSnapshot, ResolvedTarget, Below, Lies, IsZero, IsError, below_column, below_line, below_target, column_of, found_at, in_column, IsTargetSound, Description, device_len, lower_len, lower_depth, IsSound, device_there, sector_found, there, AtError, AtLost, EndsHere, MeetsError, IsWay, Leads, Node, node, IsFitting, number_in, read_numbered, read_over, State, taken_at, snapshot_at, by_below, read_below, read, ReadOf, Zeros, Fails}
-use Rattle.dm_stack.specs.declared.lines.resolved_line.ResolvedTarget.TheVariants as founds
+use Rattle.dm_map.proofs.Prelude.{ℕ, Bool, true, false, cond, List, [], Option, Some, None, length, refl, sym, ap, ◌∙◌, arith, slice_get, Lower, Device, Disk, ResolvedColumn, ResolvedLine, ResolvedSnapshot, ResolvedTarget, Below, Lies, IsZero, IsError, below_column, below_line, below_target, column_of, found_at, in_column, IsTargetSound, Description, device_len, lower_len, lower_depth, IsSound, device_there, sector_found, there, AtError, AtLost, EndsHere, MeetsError, IsWay, Leads, Node, node, IsFitting, number_in, read_numbered, read_over, State, taken_at, snapshot_at, by_below, read_below, read, ReadOf, Zeros, Fails, Error, Snapshot, Striped}
 use Rattle.dm_map.proofs.own.UniqueSteps.{fits, goes_on_inside, read_inside, serve_inside, step_inside}
 use Rattle.dm_map.proofs.own.WayLemmas.{touch_first, touch_self}
 use Rattle.dm_map.proofs.state.ResolvedLines.{line_snapshot, snapshot_sound}
@@ -38,11 +37,11 @@ snapshot_ends stack state device sector distance snapshot true None over is e = 
 
 target_ends : (stack : Description) (state : State) (device sector : ℕ) (line : ResolvedLine) (target : ResolvedTarget) → IsSound stack → found_at stack device sector ≡ Some line → line.target ≡ target → IsTargetSound stack device line.start line.len target
     → below_target (read_over (taken_at state device)) target (sector - line.start) ≡ IsError → EndsHere stack state device sector
-target_ends stack state device sector line (founds.Striped chunk columns) sound is target soundly e =
+target_ends stack state device sector line (Striped chunk columns) sound is target soundly e =
     let some = soundly.some in
     absurd (column_there columns (column_of chunk (length columns) (sector - line.start)) (in_column chunk (length columns) (sector - line.start)) (omega (arith, some)) e)
-target_ends stack state device sector line founds.Error sound is target soundly e = AtError line is target
-target_ends stack state device sector line (founds.Snapshot snapshot) sound is target soundly e =
+target_ends stack state device sector line Error sound is target soundly e = AtError line is target
+target_ends stack state device sector line (Snapshot snapshot) sound is target soundly e =
     let over = line_snapshot stack device sector line snapshot sound is target in
     snapshot_ends stack state device sector (sector - line.start) snapshot (taken_at state device).valid (number_in ((sector - line.start) / snapshot.chunk) (taken_at state device).chunks) over.1 refl e
 target_ends stack state device sector line target sound is t soundly e = absurd cc

@@ -1,6 +1,5 @@
 -- If no claims clash, each sector of a top device reads as its row says, or as an error, after any number of the first units of a request to a top device.
-use Rattle.dm_map.proofs.Prelude.{inl, inr, ℕ, zero, suc, Bool, true, false, cond, List, [], length, take, nat_lt, replicate, refl, ◌∙◌, arith, take-append-add, take-nil, cases_lt, take-append-le, Op, Device, IsTidy, IsTop, Description, device_len, IsSound, Values, played, sector_past, sector_step, AreOwn, Rows, rows_played, State, Step, keep, steps, halted_state, halted_units, BlockUnit, Fails}
-use Rattle.dm_stack.specs.declared.checks.graph.TheConstants.{MOST_DEPTH}
+use Rattle.dm_map.proofs.Prelude.{inl, inr, ℕ, zero, suc, Bool, true, false, cond, List, [], length, take, nat_lt, replicate, refl, ◌∙◌, arith, take-append-add, take-nil, cases_lt, take-append-le, Op, Device, IsTidy, IsTop, Description, device_len, IsSound, Values, played, sector_past, sector_step, AreOwn, Rows, rows_played, State, Step, keep, steps, halted_state, halted_units, BlockUnit, Fails, MOST_DEPTH}
 use Rattle.dm_map.proofs.own.OwnRequests.{both_own, none_own, played_first, rows_first, step_own}
 use Rattle.std.specs.Prelude.{◌≡◌, ◌+◌, ◌-◌, ◌≤◌, ◌++◌}
 

@@ -1,6 +1,5 @@
 -- Homes of a store's sectors on disks: a read's way leads to each of them, and no other way does.
-use Rattle.dm_map.proofs.Prelude.{ℕ, zero, suc, true, Some, refl, ap, ResolvedSnapshot, Lower, Device, Disk, IsError, below, IsTidy, Description, lower_len, IsSound, is_store_to, IsFitting, Home, home, home_to, store_sector, number_in, read_over, State, taken_at, snapshot_at, Node, node, Touches}
-use Rattle.dm_stack.specs.declared.checks.graph.TheConstants.{MOST_DEPTH}
+use Rattle.dm_map.proofs.Prelude.{ℕ, zero, suc, true, Some, refl, ap, ResolvedSnapshot, Lower, Device, Disk, IsError, below, IsTidy, Description, lower_len, IsSound, is_store_to, IsFitting, Home, home, home_to, store_sector, number_in, read_over, State, taken_at, snapshot_at, Node, node, Touches, MOST_DEPTH}
 use Rattle.dm_map.proofs.own.UniqueSteps.{IsNoLines, IsRoot, only_by_line, only_by_store, goes_on_inside, store_no_lines}
 use Rattle.dm_map.proofs.state.ResolvedLines.{snapshot_sound}
 use Rattle.dm_map.proofs.walk.ReadSteps.{IsLineStep, read_step, line_step}

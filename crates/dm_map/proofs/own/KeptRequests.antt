@@ -1,7 +1,5 @@
 -- A property that every due chunk preserves, the first sectors of a request preserve; so a state that fits its stack still does after them.
-use Rattle.dm_map.proofs.Prelude.{ℕ, zero, suc, Bool, true, false, List, [], nat_lt, AllByRecursion, Op, Device, Description, device_len, IsSound, state_past, Due, due, IsFitting, State, sector_step, take_chunk}
-use Rattle.dm_table.specs.declared.requests.request.Op.TheVariants as ops
-use Rattle.dm_stack.specs.declared.checks.graph.TheConstants.{MOST_DEPTH}
+use Rattle.dm_map.proofs.Prelude.{ℕ, zero, suc, Bool, true, false, List, [], nat_lt, AllByRecursion, Op, Device, Description, device_len, IsSound, state_past, Due, due, IsFitting, State, sector_step, take_chunk, MOST_DEPTH, Read, Write}
 use Rattle.dm_map.proofs.own.ChunkOutcomes.{full_outcome, full_outcome_fits}
 use Rattle.dm_map.proofs.own.DueChunks.{IsDue, all_due, all_taken, due_taken, write_leaves}
 use Rattle.dm_map.proofs.own.LostSnapshots.{due_there, past_by, state_at}
@@ -16,8 +14,8 @@ all_keep stack IsSo state [] kept each is = is
 all_keep stack IsSo state (one ∷ later) kept each is = all_keep stack IsSo (due_taken stack state one) later kept each.1 (kept state one each.0 is)
 
 step_keeps : (stack : Description) (IsSo : State → Type 0) (op : Op) (state : State) (asked sector : ℕ) → IsSound stack → IsKept stack IsSo → IsSo state → IsSo (sector_step stack op MOST_DEPTH (Device asked) state sector).state
-step_keeps stack IsSo ops.Read state asked sector sound kept is = is
-step_keeps stack IsSo ops.Write state asked sector sound kept is =
+step_keeps stack IsSo Read state asked sector sound kept is = is
+step_keeps stack IsSo Write state asked sector sound kept is =
     rw (write_leaves stack MOST_DEPTH (Device asked) state sector) (all_keep stack IsSo state (due stack state (Device asked) sector) kept (all_due stack MOST_DEPTH (Device asked) state sector sound) is)
 
 sectors_keep : (stack : Description) (IsSo : State → Type 0) (op : Op) (state : State) (asked start sectors : ℕ) → IsSound stack → IsKept stack IsSo → IsSo state → IsSo (state_at stack op asked start sectors state)

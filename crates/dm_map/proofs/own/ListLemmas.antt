@@ -1,7 +1,5 @@
 -- No unit of a request to a top device writes to the list of a store.
-use Rattle.dm_map.proofs.Prelude.{ℕ, zero, suc, Bool, true, false, cond, List, [], Some, take, drop, nat_lt, replicate, refl, sym, ap, ◌∙◌, AllByRecursion, take-append-drop, true≢false, Op, Own, Lower, Device, ResolvedSnapshot, IsSound, is_store_to, IsTidy, IsTop, Description, device_len, lower_len, Lies, found_at, has_state, is_metadata, all_append, all_front, IsVia, one_via, Values, answers, played, played_unit, sector_after, IsOfSnapshot, take_chunks, halted_units, IsListSector, Due, write, IsWay, Leads, Node, node, BlockUnit, WriteOf, Fails, CopyOf, FillOf, IsFitting, read_over, store_sector, State, taken_at, snapshot_at, Home, home, request_step, sector_step, read_below, copy_to, count_of, first_of, home_in_store, read, take_chunk, Step, keep, steps}
-use Rattle.dm_table.specs.declared.requests.request.Op.TheVariants as ops
-use Rattle.dm_stack.specs.declared.checks.graph.TheConstants.{MOST_DEPTH}
+use Rattle.dm_map.proofs.Prelude.{ℕ, zero, suc, Bool, true, false, cond, List, [], Some, take, drop, nat_lt, replicate, refl, sym, ap, ◌∙◌, AllByRecursion, take-append-drop, true≢false, Op, Own, Lower, Device, ResolvedSnapshot, IsSound, is_store_to, IsTidy, IsTop, Description, device_len, lower_len, Lies, found_at, has_state, is_metadata, all_append, all_front, IsVia, one_via, Values, answers, played, played_unit, sector_after, IsOfSnapshot, take_chunks, halted_units, IsListSector, Due, write, IsWay, Leads, Node, node, BlockUnit, WriteOf, Fails, CopyOf, FillOf, IsFitting, read_over, store_sector, State, taken_at, snapshot_at, Home, home, request_step, sector_step, read_below, copy_to, count_of, first_of, home_in_store, read, take_chunk, Step, keep, steps, MOST_DEPTH, Read, Write}
 use Rattle.dm_map.proofs.own.ChunkOutcomes.{FullOutcome, Done, Taking, Losing, IsRead, Sector, Nothing, Fault, full_outcome, full_outcome_fits, is_read}
 use Rattle.dm_map.proofs.own.CutLemmas.{in_place, list_no_place, list_spare, spare_unread}
 use Rattle.dm_map.proofs.own.HomeLemmas.{home_touched, store_touches}
@@ -173,13 +171,13 @@ write_off {V = V} zeros stack state top sector sound tidy is_top fitting =
 
 steps_off : {V : Type 0} (zeros : V) (stack : Description) (op : Op) (top len : ℕ) (state : State) (sector : ℕ) → IsSound stack → IsTidy stack → IsTop stack top → IsFitting stack state → AllByRecursion (IsOff zeros stack) (steps (sector_step stack op MOST_DEPTH (Device top)) state sector len).units
 steps_off zeros stack op top zero state sector sound tidy is_top fitting = tt
-steps_off zeros stack ops.Read top (suc len) state sector sound tidy is_top fitting =
-    (still_off zeros stack (read stack state (Device top) sector) (is_read stack state MOST_DEPTH (Device top) sector), steps_off zeros stack ops.Read top len state (suc sector) sound tidy is_top fitting)
-steps_off zeros stack ops.Write top (suc len) state sector sound tidy is_top fitting =
+steps_off zeros stack Read top (suc len) state sector sound tidy is_top fitting =
+    (still_off zeros stack (read stack state (Device top) sector) (is_read stack state MOST_DEPTH (Device top) sector), steps_off zeros stack Read top len state (suc sector) sound tidy is_top fitting)
+steps_off zeros stack Write top (suc len) state sector sound tidy is_top fitting =
     let step = write stack state (Device top) sector in
     let own = own_write zeros (λ s. zeros) stack state top sector sound tidy fitting is_top in
-    all_append (IsOff zeros stack) step.units (steps (sector_step stack ops.Write MOST_DEPTH (Device top)) step.state (suc sector) len).units (write_off zeros stack state top sector sound tidy is_top fitting)
-    (steps_off zeros stack ops.Write top len step.state (suc sector) sound tidy is_top own.fits)
+    all_append (IsOff zeros stack) step.units (steps (sector_step stack Write MOST_DEPTH (Device top)) step.state (suc sector) len).units (write_off zeros stack state top sector sound tidy is_top fitting)
+    (steps_off zeros stack Write top len step.state (suc sector) sound tidy is_top own.fits)
 
 fails_off : {V : Type 0} (zeros : V) (stack : Description) (len : ℕ) → AllByRecursion (IsOff zeros stack) (replicate len Fails)
 fails_off zeros stack zero = tt

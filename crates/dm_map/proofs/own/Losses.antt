@@ -1,6 +1,5 @@
 -- When a snapshot becomes lost, each sector of any device reads as before, or as an error.
-use Rattle.dm_map.proofs.Prelude.{inl, inr, ℕ, false, Option, Some, None, length, refl, sym, ap, ◌∙◌, cases_eq, ResolvedLine, ResolvedTarget, Lower, Device, Disk, Below, Lies, IsError, below_line, below_target, found_at, Description, lower_depth, IsSound, Values, Stays, content, value_read, by_below, read_below, read_over, lost, put, State, Taken, taken_at}
-use Rattle.dm_stack.specs.declared.lines.resolved_line.ResolvedTarget.TheVariants as founds
+use Rattle.dm_map.proofs.Prelude.{inl, inr, ℕ, false, Option, Some, None, length, refl, sym, ap, ◌∙◌, cases_eq, ResolvedLine, ResolvedTarget, Lower, Device, Disk, Below, Lies, IsError, below_line, below_target, found_at, Description, lower_depth, IsSound, Values, Stays, content, value_read, by_below, read_below, read_over, lost, put, State, Taken, taken_at, Snapshot}
 use Rattle.dm_map.proofs.walk.OneLevel.{by_depth, next_depth, read_disk}
 use Rattle.dm_map.proofs.walk.ChunkTaking.{taken_other, taken_same}
 use Rattle.dm_map.proofs.own.Takes.{content_down, next_same}
@@ -20,7 +19,7 @@ stays_as a b c d p q (inr gone) = inr (q ∙ gone)
 -- Where a read continues once the snapshot is lost: as before, or nowhere
 
 lost_target : (old taken : Taken) (target : ResolvedTarget) (distance : ℕ) → taken.valid ≡ false → (below_target (read_over taken) target distance ≡ below_target (read_over old) target distance) ⊎ (below_target (read_over taken) target distance ≡ IsError)
-lost_target old taken (founds.Snapshot snapshot) distance off = inr (rw off refl)
+lost_target old taken (Snapshot snapshot) distance off = inr (rw off refl)
 lost_target old taken _ distance off = inl refl
 
 lost_line : (old taken : Taken) (line : Option ResolvedLine) (sector : ℕ) → taken.valid ≡ false → (below_line (read_over taken) line sector ≡ below_line (read_over old) line sector) ⊎ (below_line (read_over taken) line sector ≡ IsError)

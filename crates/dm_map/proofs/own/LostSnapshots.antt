@@ -1,7 +1,5 @@
 -- A snapshot becomes lost exactly by a due chunk that can't be taken, and stays lost.
-use Rattle.dm_map.proofs.Prelude.{inl, inr, ℕ, zero, suc, Bool, true, false, cond, not, List, [], None, length, nat_lt, replicate, refl, sym, ap, ◌∙◌, arith, is_some, AllByRecursion, cases_Bool, cases_eq, cases_lt, le-ltb, ltb-false, not-false, or_parts, set_past, true≢false, Op, Lower, Device, Description, device_len, IsSound, state_past, AreLosing, Due, HasError, IsLosing, IsLostIn, due, write, has_place, number_in, State, Taken, lost, put, taken_at, with_chunk, request_step, sector_step, any_error, can_take, copies, count_of, first_of, is_error, is_settled, read, row, take_chunk, Step, keep, steps, BlockUnit, Fails}
-use Rattle.dm_table.specs.declared.requests.request.Op.TheVariants as ops
-use Rattle.dm_stack.specs.declared.checks.graph.TheConstants.{MOST_DEPTH}
+use Rattle.dm_map.proofs.Prelude.{inl, inr, ℕ, zero, suc, Bool, true, false, cond, not, List, [], None, length, nat_lt, replicate, refl, sym, ap, ◌∙◌, arith, is_some, AllByRecursion, cases_Bool, cases_eq, cases_lt, le-ltb, ltb-false, not-false, or_parts, set_past, true≢false, Op, Lower, Device, Description, device_len, IsSound, state_past, AreLosing, Due, HasError, IsLosing, IsLostIn, due, write, has_place, number_in, State, Taken, lost, put, taken_at, with_chunk, request_step, sector_step, any_error, can_take, copies, count_of, first_of, is_error, is_settled, read, row, take_chunk, Step, keep, steps, BlockUnit, Fails, MOST_DEPTH, Read, Write}
 use Rattle.dm_map.proofs.own.DueChunks.{IsDue, all_due, all_taken, due_taken, write_leaves}
 use Rattle.dm_map.proofs.state.ResolvedLines.{snapshot_sound}
 use Rattle.dm_map.proofs.walk.ChunkTaking.{Settled, Took, Lost, ChunkOutcome, chunk_outcome, none_of, not_settled, taken_other, taken_same}
@@ -190,27 +188,27 @@ abbrev pub state_at : Description → Op → (asked start sectors : ℕ) → Sta
 state_at stack op asked start sectors state = (steps (sector_step stack op MOST_DEPTH (Device asked)) state start sectors).state
 
 step_gone : (stack : Description) (op : Op) (state : State) (asked sector device : ℕ) → (taken_at state device).valid ≡ false → (taken_at (sector_step stack op MOST_DEPTH (Device asked) state sector).state device).valid ≡ false
-step_gone stack ops.Read state asked sector device gone = gone
-step_gone stack ops.Write state asked sector device gone = write_gone stack state (Device asked) sector device gone
+step_gone stack Read state asked sector device gone = gone
+step_gone stack Write state asked sector device gone = write_gone stack state (Device asked) sector device gone
 
 sectors_gone : (stack : Description) (state : State) (op : Op) (asked start sectors device : ℕ) → (taken_at state device).valid ≡ false → (taken_at (state_at stack op asked start sectors state) device).valid ≡ false
 sectors_gone stack state op asked start zero device gone = gone
 sectors_gone stack state op asked start (suc sectors) device gone = sectors_gone stack (sector_step stack op MOST_DEPTH (Device asked) state start).state op asked (suc start) sectors device (step_gone stack op state asked start device gone)
 
 step_count : (stack : Description) (op : Op) (state : State) (asked sector : ℕ) → length (sector_step stack op MOST_DEPTH (Device asked) state sector).state ≡ length state
-step_count stack ops.Read state asked sector = refl
-step_count stack ops.Write state asked sector = ap length (write_leaves stack MOST_DEPTH (Device asked) state sector) ∙ all_count stack state (due stack state (Device asked) sector)
+step_count stack Read state asked sector = refl
+step_count stack Write state asked sector = ap length (write_leaves stack MOST_DEPTH (Device asked) state sector) ∙ all_count stack state (due stack state (Device asked) sector)
 
 step_loses : (stack : Description) (op : Op) (state : State) (asked sector device : ℕ) → IsSound stack → length state ≡ length stack.devices → (taken_at state device).valid ≡ true → (taken_at (sector_step stack op MOST_DEPTH (Device asked) state sector).state device).valid ≡ false
-    → (op ≡ ops.Write) × AreLosing stack state device (due stack state (Device asked) sector)
-step_loses stack ops.Read state asked sector device sound count valid gone = absurd (true≢false (sym valid ∙ gone))
-step_loses stack ops.Write state asked sector device sound count valid gone = (refl, (write_loses stack state (Device asked) sector device sound count valid).0 gone)
+    → (op ≡ Write) × AreLosing stack state device (due stack state (Device asked) sector)
+step_loses stack Read state asked sector device sound count valid gone = absurd (true≢false (sym valid ∙ gone))
+step_loses stack Write state asked sector device sound count valid gone = (refl, (write_loses stack state (Device asked) sector device sound count valid).0 gone)
 
 -- the write of one of these sectors makes the snapshot lost
 record IsLostAt (stack : Description) (state : State) (device : ℕ) (op : Op) (asked start sectors : ℕ) : Type 0 where
   at : ℕ
   within : at < sectors
-  writes : op ≡ ops.Write
+  writes : op ≡ Write
   loses : AreLosing stack (state_at stack op asked start at state) device (due stack (state_at stack op asked start at state) (Device asked) (start + at))
 
 later_lost : (stack : Description) (state : State) (device : ℕ) (op : Op) (asked start sectors : ℕ) → IsLostAt stack (sector_step stack op MOST_DEPTH (Device asked) state start).state device op asked (suc start) sectors → IsLostAt stack state device op asked start (suc sectors)
@@ -232,12 +230,12 @@ sectors_lose stack state op asked start (suc sectors) device sound count valid g
           record { at = 0; within = omega arith; writes = first.0; loses = rw at at first.1 }
     ]
 
-lost_first : (stack : Description) (state : State) (op : Op) (asked start device : ℕ) → IsSound stack → length state ≡ length stack.devices → op ≡ ops.Write → AreLosing stack state device (due stack state (Device asked) start)
+lost_first : (stack : Description) (state : State) (op : Op) (asked start device : ℕ) → IsSound stack → length state ≡ length stack.devices → op ≡ Write → AreLosing stack state device (due stack state (Device asked) start)
     → (taken_at (sector_step stack op MOST_DEPTH (Device asked) state start).state device).valid ≡ false
 lost_first stack state op asked start device sound count writes losing =
     rw (writes, write_leaves stack MOST_DEPTH (Device asked) state start) (all_lose stack state device (due stack state (Device asked) start) sound count (all_due stack MOST_DEPTH (Device asked) state start sound) losing)
 
-sectors_lost : (stack : Description) (state : State) (op : Op) (asked start sectors device at : ℕ) → IsSound stack → length state ≡ length stack.devices → at < sectors → op ≡ ops.Write
+sectors_lost : (stack : Description) (state : State) (op : Op) (asked start sectors device at : ℕ) → IsSound stack → length state ≡ length stack.devices → at < sectors → op ≡ Write
     → AreLosing stack (state_at stack op asked start at state) device (due stack (state_at stack op asked start at state) (Device asked) (start + at))
     → (taken_at (state_at stack op asked start sectors state) device).valid ≡ false
 sectors_lost stack state op asked start zero device at sound count within writes losing = absurd (omega (arith, within))

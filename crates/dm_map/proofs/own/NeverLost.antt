@@ -1,8 +1,6 @@
 -- If no line is an `error` line and each store has room for all chunks of its snapshot, no snapshot is ever lost and no read fails.
-use Rattle.dm_map.proofs.Prelude.{inl, inr, ℕ, Bool, true, false, List, [], Option, Some, None, length, nat_eq, refl, sym, ap, subst, ◌∙◌, arith, AllByRecursion, IsDistinct, list_any, le-div_iff_mul-le, cases_eq, eqb-true, le-leb, true_from_ne_false, length-append, length-le_from_distinct_below, true≢false, none-some, Op, Line, Target, Lower, Device, ResolvedLine, ResolvedSnapshot, ResolvedTarget, all_append, IsSnapshotSound, found_at, resolved_target, holds, line_of, place_count, IsTidy, IsTop, Description, device_len, lines_at, lower_len, HasGoodChunk, IsSound, device_sound, found, lines_there, of_device, there, AreOwnChunks, AreExact, IsAmple, IsAmpleTarget, IsIntact, TookOwn, chunk_count, Stays, Values, content, played, sector_past, value_read, AtError, AtLost, EndsHere, halted_state, halted_units, state_past, Due, HasError, IsLosing, AreOwn, Rows, first_rows, rows_played, IsFitting, number_in, State, Taken, lost, put, start_state, taken_at, with_chunk, snapshot_at, request_step, read, take_chunk, Step, BlockUnit, Fails}
+use Rattle.dm_map.proofs.Prelude.{inl, inr, ℕ, Bool, true, false, List, [], Option, Some, None, length, nat_eq, refl, sym, ap, subst, ◌∙◌, arith, AllByRecursion, IsDistinct, list_any, le-div_iff_mul-le, cases_eq, eqb-true, le-leb, true_from_ne_false, length-append, length-le_from_distinct_below, true≢false, none-some, Op, Line, Target, Lower, Device, ResolvedLine, ResolvedSnapshot, ResolvedTarget, all_append, IsSnapshotSound, found_at, resolved_target, holds, line_of, place_count, IsTidy, IsTop, Description, device_len, lines_at, lower_len, HasGoodChunk, IsSound, device_sound, found, lines_there, of_device, there, AreOwnChunks, AreExact, IsAmple, IsAmpleTarget, IsIntact, TookOwn, chunk_count, Stays, Values, content, played, sector_past, value_read, AtError, AtLost, EndsHere, halted_state, halted_units, state_past, Due, HasError, IsLosing, AreOwn, Rows, first_rows, rows_played, number_in, State, Taken, lost, put, start_state, taken_at, with_chunk, snapshot_at, request_step, read, take_chunk, Step, BlockUnit, Fails, MOST_DEPTH, Error, Snapshot}
 use Rattle.dm_table.specs.declared.tables.table.Target.TheVariants as targets
-use Rattle.dm_stack.specs.declared.checks.graph.TheConstants.{MOST_DEPTH}
-use Rattle.dm_stack.specs.declared.lines.resolved_line.ResolvedTarget.TheVariants as founds
 use Rattle.dm_stack.proofs.ChunkLemmas.{good_lines}
 use Rattle.dm_stack.proofs.StoreLayoutLemmas.{has_place}
 use Rattle.dm_map.specs.state.Snapshots as snapshots
@@ -22,8 +20,8 @@ use Rattle.std.specs.Prelude.{◌≡◌, ◌+◌, ◌-◌, ◌*◌, ◌/◌, ◌
 -- What an ample stack says about the line of a sector
 
 abbrev IsAmpleFound : Description → (len : ℕ) → ResolvedTarget → Type 0
-IsAmpleFound stack len founds.Error = ⊥
-IsAmpleFound stack len (founds.Snapshot snapshot) = chunk_count snapshot.chunk len ≤ place_count snapshot.kind snapshot.chunk (lower_len stack snapshot.store)
+IsAmpleFound stack len Error = ⊥
+IsAmpleFound stack len (Snapshot snapshot) = chunk_count snapshot.chunk len ≤ place_count snapshot.kind snapshot.chunk (lower_len stack snapshot.store)
 IsAmpleFound stack len _ = Unit {0}
 
 ample_target : (stack : Description) (len : ℕ) (target : Target) → HasGoodChunk target → IsAmpleTarget stack len target → IsAmpleFound stack len (resolved_target stack target)
@@ -43,7 +41,7 @@ ample_line stack device sector line sound ample is =
     let good : HasGoodChunk raw.0.target = (found (λ it. HasGoodChunk it.target) (holds sector) d.it.lines raw.0 fitting held).1 in
     subst (λ (l : ResolvedLine). IsAmpleFound stack l.len l.target) raw.2 (ample_target stack raw.0.len raw.0.target good (found P (holds sector) d.it.lines raw.0 each held).1)
 
-ample_error : (stack : Description) (device sector : ℕ) (line : ResolvedLine) → IsSound stack → IsAmple stack → found_at stack device sector ≡ Some line → line.target ≡ founds.Error → ⊥
+ample_error : (stack : Description) (device sector : ℕ) (line : ResolvedLine) → IsSound stack → IsAmple stack → found_at stack device sector ≡ Some line → line.target ≡ Error → ⊥
 ample_error stack device sector line sound ample is target = subst (IsAmpleFound stack line.len) target (ample_line stack device sector line sound ample is)
 
 ample_room : (stack : Description) (device : ℕ) (snapshot : ResolvedSnapshot) → IsSound stack → IsAmple stack → snapshot_at stack device ≡ Some snapshot → chunk_count snapshot.chunk (device_len stack device) ≤ place_count snapshot.kind snapshot.chunk (lower_len stack snapshot.store)
@@ -160,17 +158,6 @@ due_intact stack state one sound ample is intact =
     }
 
 -- Requests preserve the chunks that snapshots have, and, in an ample stack, that none is lost
-
--- the stack can be in this state, in which each snapshot has only chunks of its own, none twice
-pub record IsOwn (stack : Description) (state : State) : Type 0 where
-  pub fits : IsFitting stack state
-  pub chunks : TookOwn stack state
-
-pub past_own : (stack : Description) (op : Op) (state : State) (asked start len sectors : ℕ) → IsSound stack → IsOwn stack state → IsOwn stack (state_past stack op asked start len sectors state)
-past_own stack op state asked start len sectors sound own = past_keeps stack (IsOwn stack) op state asked start len sectors sound (λ before one is so. record {
-  fits = due_fits stack before one sound is so.fits;
-  chunks = due_own stack before one sound is so.chunks (due_there stack before one sound so.fits.count is);
-}) own
 
 pub past_intact : (stack : Description) (op : Op) (state : State) (asked start len sectors : ℕ) → IsSound stack → IsAmple stack → IsIntact stack state → IsIntact stack (state_past stack op asked start len sectors state)
 past_intact stack op state asked start len sectors sound ample intact =

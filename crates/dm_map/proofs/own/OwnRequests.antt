@@ -1,7 +1,5 @@
 -- If no claims clash, each sector of a top device reads as its row says, or as an error, after any request to a top device.
-use Rattle.dm_map.proofs.Prelude.{inl, inr, ℕ, zero, suc, Bool, true, false, cond, List, [], append_assoc, length, take, drop, Some, nat_lt, replicate, refl, sym, ap, ◌∙◌, arith, AllByRecursion, cases_eq, append-nil, length-append, take-append-drop, take-append-le, Op, Device, IsTidy, IsTop, Description, device_len, IsSound, Values, answers, played, played_unit, sector_after, sector_past, stored, value_read, Home, request_step, sector_step, IsOwnWrite, write, AreOwn, Rows, first_rows, row_unit, rows_played, read, State, start_state, Step, keep, steps, BlockUnit, ReadOf, WriteOf, Fails, CopyOf, FillOf, past-append, all_front}
-use Rattle.dm_table.specs.declared.requests.request.Op.TheVariants as ops
-use Rattle.dm_stack.specs.declared.checks.graph.TheConstants.{MOST_DEPTH}
+use Rattle.dm_map.proofs.Prelude.{inl, inr, ℕ, zero, suc, Bool, true, false, cond, List, [], append_assoc, length, take, drop, Some, nat_lt, replicate, refl, sym, ap, ◌∙◌, arith, AllByRecursion, cases_eq, append-nil, length-append, take-append-drop, take-append-le, Op, Device, IsTidy, IsTop, Description, device_len, IsSound, Values, answers, played, played_unit, sector_after, sector_past, stored, value_read, Home, request_step, sector_step, IsOwnWrite, write, AreOwn, Rows, first_rows, row_unit, rows_played, read, State, start_state, Step, keep, steps, BlockUnit, ReadOf, WriteOf, Fails, CopyOf, FillOf, past-append, all_front, MOST_DEPTH, Read, Write}
 use Rattle.dm_map.proofs.own.Losses.{stays_as, stays_on}
 use Rattle.dm_map.proofs.own.ChunkOutcomes.{IsRead, Sector, Nothing, Fault, is_read}
 use Rattle.dm_map.proofs.own.OwnWrites.{own_write, start_fits}
@@ -179,9 +177,9 @@ read_own {V = V} zeros written stack state top sector unit values rows reads own
 
 pub step_own : {V : Type 0} (zeros : V) (written : ℕ → V) (stack : Description) (op : Op) (state : State) (top sector : ℕ) (values : Values V) (rows : Rows V) → IsSound stack → IsTidy stack → IsTop stack top → AreOwn zeros stack state values rows
     → IsOwnStep zeros written stack top state sector (sector_step stack op MOST_DEPTH (Device top) state sector) values rows
-step_own zeros written stack ops.Read state top sector values rows sound tidy is_top own =
+step_own zeros written stack Read state top sector values rows sound tidy is_top own =
     read_own zeros written stack state top sector (read stack state (Device top) sector) values rows (is_read stack state MOST_DEPTH (Device top) sector) own
-step_own zeros written stack ops.Write state top sector values rows sound tidy is_top own = write_own zeros written stack state top sector values rows sound tidy is_top own
+step_own zeros written stack Write state top sector values rows sound tidy is_top own = write_own zeros written stack state top sector values rows sound tidy is_top own
 
 -- The steps of a request
 

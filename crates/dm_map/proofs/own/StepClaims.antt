@@ -1,7 +1,6 @@
 -- Each step of a read follows a claim: a span of a line without state, the store or the origin of a snapshot, or the line of an origin.
-use Rattle.dm_map.proofs.Prelude.{ℕ, [], Some, length, refl, sym, ap, ◌∙◌, arith, slice_get, DevRef, Line, Target, Use, Own, Reading, Serving, ResolvedLine, ResolvedOrigin, ResolvedSnapshot, Lower, target_spans, whole_span, IsTargetSound, Lies, below_plain, found_at, resolved_line, resolved_target, holds, line_of, Description, lines_at, lower_len, lower_of, origin_over, resolved_snapshot, IsSound, IsNamed, IsVia, origin_at, snapshot_at}
+use Rattle.dm_map.proofs.Prelude.{ℕ, [], Some, length, refl, sym, ap, ◌∙◌, arith, slice_get, DevRef, Line, Target, Use, Own, Reading, Serving, ResolvedLine, ResolvedOrigin, ResolvedSnapshot, Lower, target_spans, whole_span, IsTargetSound, Lies, below_plain, found_at, resolved_line, resolved_target, holds, line_of, Description, lines_at, lower_len, lower_of, origin_over, resolved_snapshot, IsSound, IsNamed, IsVia, origin_at, snapshot_at, Origin, Snapshot}
 use Rattle.dm_table.specs.declared.tables.table.Target.TheVariants as targets
-use Rattle.dm_stack.specs.declared.lines.resolved_line.ResolvedTarget.TheVariants as founds
 use Rattle.dm_stack.proofs.Parts.{found_place}
 use Rattle.dm_map.proofs.state.ResolvedLines.{first_line, first_origin, line_sound, origin_sound, snapshot_sound, some_line}
 use Rattle.dm_map.proofs.walk.Spans.{IsPlainStep, plain_before, plain_span, span_distance, span_index}
@@ -53,19 +52,19 @@ via_line stack device sector line lower at sound is step =
 pub record IsSnapshotVia (stack : Description) (device : ℕ) (snapshot : ResolvedSnapshot) : Type 0 where
   pub index : ℕ
   pub it : Line
-  pub target : resolved_target stack it.target ≡ founds.Snapshot snapshot
+  pub target : resolved_target stack it.target ≡ Snapshot snapshot
   pub store_named : IsNamed stack device index 0 it snapshot.store
   pub origin_named : IsNamed stack device index 1 it snapshot.origin
   pub store : (at : ℕ) → at < lower_len stack snapshot.store → IsVia stack device index 0 it snapshot.store at Own
   pub origin : (at : ℕ) → at < lower_len stack snapshot.origin → IsVia stack device index 1 it snapshot.origin at Reading
 
-snapshot_spans : (stack : Description) (len : ℕ) (target : Target) (snapshot : ResolvedSnapshot) → resolved_target stack target ≡ founds.Snapshot snapshot
+snapshot_spans : (stack : Description) (len : ℕ) (target : Target) (snapshot : ResolvedSnapshot) → resolved_target stack target ≡ Snapshot snapshot
     → (store : DevRef) × (origin : DevRef) × (target_spans len target ≡ whole_span store Own ∷ whole_span origin Reading ∷ []) × (lower_of stack store ≡ snapshot.store) × (lower_of stack origin ≡ snapshot.origin)
 snapshot_spans stack len (targets.Snapshot origin store kind chunk_size) snapshot is =
     let same = snapshot_is (resolved_snapshot stack origin store kind chunk_size) snapshot is in
     (store, origin, refl, cc, cc)
   where
-    snapshot_is : (a b : ResolvedSnapshot) → founds.Snapshot a ≡ founds.Snapshot b → a ≡ b
+    snapshot_is : (a b : ResolvedSnapshot) → Snapshot a ≡ Snapshot b → a ≡ b
     snapshot_is a b e = cc
 snapshot_spans stack len target snapshot is = absurd cc
 
@@ -95,7 +94,7 @@ via_snapshot stack device snapshot sound at =
     let first = first_line stack device snapshot (found_at stack device 0) refl at in
     let raw = some_line stack (line_of (lines_at stack device) 0) first.0 first.1 in
     let index = found_place (holds 0) (lines_at stack device) raw.0 raw.1 in
-    let target : resolved_target stack raw.0.target ≡ founds.Snapshot snapshot = cc in
+    let target : resolved_target stack raw.0.target ≡ Snapshot snapshot = cc in
     let named = snapshot_spans stack raw.0.len raw.0.target snapshot target in
     let there = (snapshot_sound stack device snapshot sound at).there in
     let store = whole_via stack device index.0 0 raw.0 snapshot.store Own named.0 there index.1 (rw named.2) named.3 in
@@ -115,14 +114,14 @@ via_snapshot stack device snapshot sound at =
 pub record IsOriginVia (stack : Description) (device : ℕ) (origin : ResolvedOrigin) : Type 0 where
   pub index : ℕ
   pub it : Line
-  pub target : resolved_target stack it.target ≡ founds.Origin origin
+  pub target : resolved_target stack it.target ≡ Origin origin
   pub named : IsNamed stack device index 0 it origin.to
   pub via : (at : ℕ) → at < lower_len stack origin.to → IsVia stack device index 0 it origin.to at Serving
 
-origin_spans : (stack : Description) (len : ℕ) (target : Target) (origin : ResolvedOrigin) → resolved_target stack target ≡ founds.Origin origin → (to : DevRef) × (target_spans len target ≡ whole_span to Serving ∷ []) × (lower_of stack to ≡ origin.to)
+origin_spans : (stack : Description) (len : ℕ) (target : Target) (origin : ResolvedOrigin) → resolved_target stack target ≡ Origin origin → (to : DevRef) × (target_spans len target ≡ whole_span to Serving ∷ []) × (lower_of stack to ≡ origin.to)
 origin_spans stack len (targets.Origin to) origin is = (to, refl, cc (origin_is (record { to = lower_of stack to; over = origin_over stack (lower_of stack to) }) origin is))
   where
-    origin_is : (a b : ResolvedOrigin) → founds.Origin a ≡ founds.Origin b → a ≡ b
+    origin_is : (a b : ResolvedOrigin) → Origin a ≡ Origin b → a ≡ b
     origin_is a b e = cc
 origin_spans stack len target origin is = absurd cc
 
@@ -131,7 +130,7 @@ via_origin stack device origin sound at =
     let first = first_origin stack device origin (found_at stack device 0) refl at in
     let raw = some_line stack (line_of (lines_at stack device) 0) first.0 first.1 in
     let index = found_place (holds 0) (lines_at stack device) raw.0 raw.1 in
-    let target : resolved_target stack raw.0.target ≡ founds.Origin origin = cc in
+    let target : resolved_target stack raw.0.target ≡ Origin origin = cc in
     let named = origin_spans stack raw.0.len raw.0.target origin target in
     let there = (origin_sound stack device origin sound at).there in
     let whole = whole_via stack device index.0 0 raw.0 origin.to Serving named.0 there index.1 (rw named.1) named.2 in

@@ -1,6 +1,5 @@
 -- Taking a chunk changes nothing that a root reads.
-use Rattle.dm_map.proofs.Prelude.{inl, inr, ℕ, true, List, [], Option, Some, None, length, refl, sym, ap, ◌∙◌, arith, cases_eq, ResolvedLine, ResolvedSnapshot, Lower, Device, Disk, Below, Lies, found_at, IsTidy, Description, lower_len, lower_depth, place, IsSound, Values, content, played, value_read, IsFitting, by_below, read_below, store_sector, number_in, read_numbered, read_over, copies, count_of, first_of, home_in_store, read, put, with_chunk, State, Taken, taken_at, snapshot_at, BlockUnit, Zeros, Fails, Node, node, Touches}
-use Rattle.dm_stack.specs.declared.checks.graph.TheConstants.{MOST_DEPTH}
+use Rattle.dm_map.proofs.Prelude.{inl, inr, ℕ, true, List, [], Option, Some, None, length, refl, sym, ap, ◌∙◌, arith, cases_eq, ResolvedLine, ResolvedSnapshot, Lower, Device, Disk, Below, Lies, found_at, IsTidy, Description, lower_len, lower_depth, place, IsSound, Values, content, played, value_read, IsFitting, by_below, read_below, store_sector, number_in, read_numbered, read_over, copies, count_of, first_of, home_in_store, read, put, with_chunk, State, Taken, taken_at, snapshot_at, BlockUnit, Zeros, Fails, Node, node, Touches, MOST_DEPTH}
 use Rattle.dm_map.proofs.own.UniqueSteps.{IsRoot, origin_root}
 use Rattle.dm_map.proofs.state.ResolvedLines.{line_sound, snapshot_sound}
 use Rattle.dm_map.proofs.own.HomeLemmas.{fresh_apart, homes_apart}

@@ -1,6 +1,5 @@
 -- If no claims clash, at most one step of a read leads to a sector of a column, a store or an origin, and none leads to a top device.
-use Rattle.dm_map.proofs.Prelude.{ℕ, true, false, Option, Some, None, refl, sym, ap, ◌∙◌, arith, leb-true, true≢false, Line, Use, Own, Reading, Serving, ResolvedLine, ResolvedOrigin, ResolvedSnapshot, ResolvedTarget, Lower, Device, Lies, below_line, found_at, resolved_line, resolved_target, has_state, IsTidy, IsTop, Description, device_len, lower_len, snapshots_over, IsSound, IsVia, IsNamed, one_via, top_named, plain_inside, IsFitting, read_below, AreSettled, is_settled, store_sector, number_in, read_over, State, Taken, taken_at, origin_at, snapshot_at}
-use Rattle.dm_stack.specs.declared.lines.resolved_line.ResolvedTarget.TheVariants as founds
+use Rattle.dm_map.proofs.Prelude.{ℕ, true, false, Option, Some, None, refl, sym, ap, ◌∙◌, arith, leb-true, true≢false, Line, Use, Own, Reading, Serving, ResolvedLine, ResolvedOrigin, ResolvedSnapshot, ResolvedTarget, Lower, Device, Lies, below_line, found_at, resolved_line, resolved_target, has_state, IsTidy, IsTop, Description, device_len, lower_len, snapshots_over, IsSound, IsVia, IsNamed, one_via, top_named, plain_inside, IsFitting, read_below, AreSettled, is_settled, store_sector, number_in, read_over, State, Taken, taken_at, origin_at, snapshot_at, Origin, Snapshot}
 use Rattle.dm_map.proofs.state.ResolvedLines.{line_sound, origin_sound, snapshot_sound}
 use Rattle.dm_map.proofs.walk.ReadSteps.{ReadStep, ByLine, ByStore, ByRead, ByServe}
 use Rattle.dm_map.proofs.walk.Spans.{IsPlainStep, distance_one, span_distance, span_index}
@@ -16,19 +15,19 @@ use Rattle.std.specs.Prelude.{◌≡◌, ◌-◌, ◌/◌, ◌<◌}
 no_plain : (target other : ResolvedTarget) (distance : ℕ) (lower : Lower) (at : ℕ) → target ≡ other → has_state other ≡ true → IsPlainStep target distance lower at → ⊥
 no_plain target other distance lower at is state step = cc
 
-line_no_snapshot : (stack : Description) (device sector : ℕ) (line : ResolvedLine) (lower : Lower) (at : ℕ) (l m : Line) (snapshot : ResolvedSnapshot) → resolved_line stack l ≡ line → IsPlainStep line.target (sector - line.start) lower at → l ≡ m → resolved_target stack m.target ≡ founds.Snapshot snapshot → ⊥
+line_no_snapshot : (stack : Description) (device sector : ℕ) (line : ResolvedLine) (lower : Lower) (at : ℕ) (l m : Line) (snapshot : ResolvedSnapshot) → resolved_line stack l ≡ line → IsPlainStep line.target (sector - line.start) lower at → l ≡ m → resolved_target stack m.target ≡ Snapshot snapshot → ⊥
 line_no_snapshot stack device sector line lower at l m snapshot is step same target =
-    no_plain line.target (founds.Snapshot snapshot) (sector - line.start) lower at (cc) refl step
+    no_plain line.target (Snapshot snapshot) (sector - line.start) lower at (cc) refl step
 
-line_no_origin : (stack : Description) (device sector : ℕ) (line : ResolvedLine) (lower : Lower) (at : ℕ) (l m : Line) (origin : ResolvedOrigin) → resolved_line stack l ≡ line → IsPlainStep line.target (sector - line.start) lower at → l ≡ m → resolved_target stack m.target ≡ founds.Origin origin → ⊥
+line_no_origin : (stack : Description) (device sector : ℕ) (line : ResolvedLine) (lower : Lower) (at : ℕ) (l m : Line) (origin : ResolvedOrigin) → resolved_line stack l ≡ line → IsPlainStep line.target (sector - line.start) lower at → l ≡ m → resolved_target stack m.target ≡ Origin origin → ⊥
 line_no_origin stack device sector line lower at l m origin is step same target =
-    no_plain line.target (founds.Origin origin) (sector - line.start) lower at (cc) refl step
+    no_plain line.target (Origin origin) (sector - line.start) lower at (cc) refl step
 
 -- a snapshot's line is not an origin's line
-snapshot_no_origin : (stack : Description) (l m : Line) (snapshot : ResolvedSnapshot) (origin : ResolvedOrigin) → resolved_target stack l.target ≡ founds.Snapshot snapshot → l ≡ m → resolved_target stack m.target ≡ founds.Origin origin → ⊥
+snapshot_no_origin : (stack : Description) (l m : Line) (snapshot : ResolvedSnapshot) (origin : ResolvedOrigin) → resolved_target stack l.target ≡ Snapshot snapshot → l ≡ m → resolved_target stack m.target ≡ Origin origin → ⊥
 snapshot_no_origin stack l m snapshot origin is same target = cc
   where
-    differ : founds.Snapshot snapshot ≡ founds.Origin origin → ⊥
+    differ : Snapshot snapshot ≡ Origin origin → ⊥
     differ e = cc
 
 -- A step of a read leads inside the device or disk that it leads to

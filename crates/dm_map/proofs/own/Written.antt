@@ -1,7 +1,5 @@
 -- The write of a sector: it takes chunks and then has one more unit; what is read afterwards, and by which devices.
-use Rattle.dm_map.proofs.Prelude.{inl, inr, ℕ, Bool, true, false, cond, List, [], Option, Some, None, length, refl, sym, ap, ◌∙◌, arith, AllByRecursion, append-nil, same_Some, ResolvedLine, ResolvedOrigin, ResolvedSnapshot, ResolvedTarget, Lower, Device, Disk, Below, Lies, IsZero, IsError, below, below_plain, found_at, has_state, IsTidy, Description, is_ro_at, lower_len, lower_depth, IsSound, answers, IsOfSnapshot, take_chunks, Due, due_over, IsFitting, write_line, write_step, write_target, by_below, read_below, IsOver, serve, served_step, store_sector, number_in, read_over, home_in_store, is_refused, read, take_chunk, unit_in_store, write_numbered, State, Taken, taken_at, Step, keep, and_then, origin_at, snapshot_at, BlockUnit, ReadOf, WriteOf, Drops, Fails, Node, node, Touches, all_append}
-use Rattle.dm_stack.specs.declared.lines.resolved_line.ResolvedTarget.TheVariants as founds
-use Rattle.dm_stack.specs.declared.checks.graph.TheConstants.{MOST_DEPTH}
+use Rattle.dm_map.proofs.Prelude.{inl, inr, ℕ, Bool, true, false, cond, List, [], Option, Some, None, length, refl, sym, ap, ◌∙◌, arith, AllByRecursion, append-nil, same_Some, ResolvedLine, ResolvedOrigin, ResolvedSnapshot, ResolvedTarget, Lower, Device, Disk, Below, Lies, IsZero, IsError, below, below_plain, found_at, has_state, IsTidy, Description, is_ro_at, lower_len, lower_depth, IsSound, answers, IsOfSnapshot, take_chunks, Due, due_over, IsFitting, write_line, write_step, write_target, by_below, read_below, IsOver, serve, served_step, store_sector, number_in, read_over, home_in_store, is_refused, read, take_chunk, unit_in_store, write_numbered, State, Taken, taken_at, Step, keep, and_then, origin_at, snapshot_at, BlockUnit, ReadOf, WriteOf, Drops, Fails, Node, node, Touches, all_append, MOST_DEPTH, Origin, Snapshot}
 use Rattle.dm_map.proofs.own.UniqueSteps.{IsRoot, IsUnserved, only_by_origin, only_by_store, fits, goes_on_inside}
 use Rattle.dm_map.proofs.state.ResolvedLines.{line_origin, line_snapshot, line_sound, origin_sound, snapshot_sound}
 use Rattle.dm_map.proofs.own.HomeLemmas.{home_node, home_touched, node_is, touch_up}
@@ -217,12 +215,12 @@ plain_written stack state device sector line IsError step sound fitting tidy is 
 
 target_written : (stack : Description) (state : State) (device sector : ℕ) (line : ResolvedLine) (target : ResolvedTarget) (step : Step) → IsSound stack → IsFitting stack state → IsTidy stack → found_at stack device sector ≡ Some line → line.target ≡ target
     → ((to : Lower) → lower_depth stack to < lower_depth stack (Device device) → Writes stack to) → step ≡ write_target stack state device target (sector - line.start) (λ to after at. write_step stack MOST_DEPTH to after at) → Written stack state (Device device) sector step
-target_written stack state device sector line (founds.Snapshot snapshot) step sound fitting tidy is target each step_is =
+target_written stack state device sector line (Snapshot snapshot) step sound fitting tidy is target each step_is =
     let over = line_snapshot stack device sector line snapshot sound is target in
     let first = over.0 in
     let same : sector - line.start ≡ sector = omega (arith, first) in
     chunk_by (is_refused stack snapshot (taken_at state device) (sector / snapshot.chunk)) stack state device sector line snapshot step sound fitting tidy over.1 is cc
-target_written stack state device sector line (founds.Origin origin) step sound fitting tidy is target each step_is =
+target_written stack state device sector line (Origin origin) step sound fitting tidy is target each step_is =
     let over = line_origin stack device sector line origin sound is target in
     let first = over.0 in
     let same : sector - line.start ≡ sector = omega (arith, first) in

@@ -1,13 +1,12 @@
 -- Legs of a striped line on disks: their units leg by leg, and a sink that receives them one by one.
-use Rattle.dm_map.proofs.Prelude.{ℕ, zero, suc, List, [], append_assoc, refl, sym, ap, ◌∙◌, arith, Result, Ok, Err, IsErr, Op, Disk, ResolvedTarget, Leg, Description, Lies, below_plain, after_leg, AreOnDisks, LegsView, legs_after, IsDiskLeg, AreHanded, IsHanded, IsLawful, SinkPast, BlockUnit, below_unit, disk_unit, legs_units, line_units, next_unit, units_in}
-use Rattle.dm_table.specs.declared.requests.request.Op.TheVariants as ops
+use Rattle.dm_map.proofs.Prelude.{ℕ, zero, suc, List, [], append_assoc, refl, sym, ap, ◌∙◌, arith, Result, Ok, Err, IsErr, Op, Disk, ResolvedTarget, Leg, Description, Lies, below_plain, after_leg, AreOnDisks, LegsView, legs_after, IsDiskLeg, AreHanded, IsHanded, IsLawful, SinkPast, BlockUnit, below_unit, disk_unit, legs_units, line_units, next_unit, units_in, Read, Write}
 use Rattle.std.specs.Prelude.{◌≡◌, ◌+◌, ◌-◌, ◌<◌, ◌≤◌, ◌∷◌, ◌++◌}
 
 -- Units of legs on disks
 
 next_disk_unit : (op : Op) (disk sector : ℕ) → next_unit (disk_unit op disk sector) ≡ disk_unit op disk (suc sector)
-next_disk_unit ops.Read disk sector = refl
-next_disk_unit ops.Write disk sector = refl
+next_disk_unit Read disk sector = refl
+next_disk_unit Write disk sector = refl
 
 -- the units of sectors that lie in a row on a disk
 units_of_row : (op : Op) (target : ResolvedTarget) (distance disk sector n : ℕ) → ((i : ℕ) → i < n → below_plain target (distance + i) ≡ Lies (Disk disk) (sector + i)) → line_units op target distance n ≡ units_in (disk_unit op disk sector) n

@@ -1,7 +1,6 @@
 -- What a sound stack says about the line that is found for a sector.
-use Rattle.dm_map.proofs.Prelude.{ℕ, inl, inr, Bool, true, false, cond, List, [], Option, Some, None, length, refl, sym, ap, ◌∙◌, arith, option_and_then, option_map, nat_le, nat_lt, and_parts, cases_lt, ltb-true, slice_get_past, Line, ResolvedLine, ResolvedOrigin, ResolvedSnapshot, ResolvedTarget, found_at, resolved_line, holds, line_of, IsOriginSound, IsSnapshotSound, Description, device_len, IsSound, same_found, HoldsSoundly, device_sound, lines_there, sector_found, there, origin_at, origin_of, snapshot_at, snapshot_of}
+use Rattle.dm_map.proofs.Prelude.{ℕ, inl, inr, Bool, true, false, cond, List, [], Option, Some, None, length, refl, sym, ap, ◌∙◌, arith, option_and_then, option_map, nat_le, nat_lt, and_parts, cases_lt, ltb-true, slice_get_past, Line, ResolvedLine, ResolvedOrigin, ResolvedSnapshot, ResolvedTarget, found_at, resolved_line, holds, line_of, IsOriginSound, IsSnapshotSound, Description, device_len, IsSound, same_found, HoldsSoundly, device_sound, lines_there, sector_found, there, origin_at, origin_of, snapshot_at, snapshot_of, Origin, Snapshot}
 use Rattle.dm_stack.specs.Prelude.{end_of}
-use Rattle.dm_stack.specs.declared.lines.resolved_line.ResolvedTarget.TheVariants as founds
 use Rattle.dm_stack.proofs.LayoutLemmas.{AreInRow}
 use Rattle.std.specs.Prelude.{◌≡◌, ◌+◌, ◌<◌, ◌≤◌, ◌∷◌}
 
@@ -70,19 +69,19 @@ pub record IsSnapshotOf (stack : Description) (device : ℕ) (snapshot : Resolve
   pub some : 0 < device_len stack device
   pub soundly : IsSnapshotSound stack device 0 (device_len stack device) snapshot
   -- each sector of the device is on the snapshot's line
-  pub each : (sector : ℕ) (line : ResolvedLine) → found_at stack device sector ≡ Some line → (line.start ≡ 0) × (line.target ≡ founds.Snapshot snapshot)
+  pub each : (sector : ℕ) (line : ResolvedLine) → found_at stack device sector ≡ Some line → (line.start ≡ 0) × (line.target ≡ Snapshot snapshot)
 
-pub line_snapshot : (stack : Description) (device sector : ℕ) (line : ResolvedLine) (snapshot : ResolvedSnapshot) → IsSound stack → found_at stack device sector ≡ Some line → line.target ≡ founds.Snapshot snapshot
+pub line_snapshot : (stack : Description) (device sector : ℕ) (line : ResolvedLine) (snapshot : ResolvedSnapshot) → IsSound stack → found_at stack device sector ≡ Some line → line.target ≡ Snapshot snapshot
     → (line.start ≡ 0) × (snapshot_at stack device ≡ Some snapshot)
 line_snapshot stack device sector line snapshot sound is target =
     let over : IsSnapshotSound stack device line.start line.len snapshot = rw target at (line_sound stack device sector line sound is).soundly.target in
     (over.from, rw (first_found stack device sector line sound is over.from, target) refl)
 
-target_snapshot : (line : ResolvedLine) (target : ResolvedTarget) (snapshot : ResolvedSnapshot) → line.target ≡ target → snapshot_of target ≡ Some snapshot → line.target ≡ founds.Snapshot snapshot
-target_snapshot line (founds.Snapshot other) snapshot is e = is ∙ ap founds.Snapshot cc
+target_snapshot : (line : ResolvedLine) (target : ResolvedTarget) (snapshot : ResolvedSnapshot) → line.target ≡ target → snapshot_of target ≡ Some snapshot → line.target ≡ Snapshot snapshot
+target_snapshot line (Snapshot other) snapshot is e = is ∙ ap Snapshot cc
 target_snapshot line target snapshot is e = absurd cc
 
-pub first_line : (stack : Description) (device : ℕ) (snapshot : ResolvedSnapshot) (found : Option ResolvedLine) → found_at stack device 0 ≡ found → option_and_then (λ (line : ResolvedLine). snapshot_of line.target) found ≡ Some snapshot → (line : ResolvedLine) × (found_at stack device 0 ≡ Some line) × (line.target ≡ founds.Snapshot snapshot)
+pub first_line : (stack : Description) (device : ℕ) (snapshot : ResolvedSnapshot) (found : Option ResolvedLine) → found_at stack device 0 ≡ found → option_and_then (λ (line : ResolvedLine). snapshot_of line.target) found ≡ Some snapshot → (line : ResolvedLine) × (found_at stack device 0 ≡ Some line) × (line.target ≡ Snapshot snapshot)
 first_line stack device snapshot None is e = absurd cc
 first_line stack device snapshot (Some line) is e = (line, is, target_snapshot line line.target snapshot refl e)
 
@@ -109,17 +108,17 @@ pub record IsOriginOf (stack : Description) (device : ℕ) (origin : ResolvedOri
   pub some : 0 < device_len stack device
   pub soundly : IsOriginSound stack device 0 (device_len stack device) origin
 
-pub line_origin : (stack : Description) (device sector : ℕ) (line : ResolvedLine) (origin : ResolvedOrigin) → IsSound stack → found_at stack device sector ≡ Some line → line.target ≡ founds.Origin origin
+pub line_origin : (stack : Description) (device sector : ℕ) (line : ResolvedLine) (origin : ResolvedOrigin) → IsSound stack → found_at stack device sector ≡ Some line → line.target ≡ Origin origin
     → (line.start ≡ 0) × (origin_at stack device ≡ Some origin)
 line_origin stack device sector line origin sound is target =
     let it : IsOriginSound stack device line.start line.len origin = rw target at (line_sound stack device sector line sound is).soundly.target in
     (it.from, rw (first_found stack device sector line sound is it.from, target) refl)
 
-target_origin : (line : ResolvedLine) (target : ResolvedTarget) (origin : ResolvedOrigin) → line.target ≡ target → origin_of target ≡ Some origin → line.target ≡ founds.Origin origin
-target_origin line (founds.Origin other) origin is e = is ∙ ap founds.Origin cc
+target_origin : (line : ResolvedLine) (target : ResolvedTarget) (origin : ResolvedOrigin) → line.target ≡ target → origin_of target ≡ Some origin → line.target ≡ Origin origin
+target_origin line (Origin other) origin is e = is ∙ ap Origin cc
 target_origin line target origin is e = absurd cc
 
-pub first_origin : (stack : Description) (device : ℕ) (origin : ResolvedOrigin) (found : Option ResolvedLine) → found_at stack device 0 ≡ found → option_and_then (λ (line : ResolvedLine). origin_of line.target) found ≡ Some origin → (line : ResolvedLine) × (found_at stack device 0 ≡ Some line) × (line.target ≡ founds.Origin origin)
+pub first_origin : (stack : Description) (device : ℕ) (origin : ResolvedOrigin) (found : Option ResolvedLine) → found_at stack device 0 ≡ found → option_and_then (λ (line : ResolvedLine). origin_of line.target) found ≡ Some origin → (line : ResolvedLine) × (found_at stack device 0 ≡ Some line) × (line.target ≡ Origin origin)
 first_origin stack device origin None is e = absurd cc
 first_origin stack device origin (Some line) is e = (line, is, target_origin line line.target origin refl e)
 

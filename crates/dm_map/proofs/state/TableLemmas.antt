@@ -1,10 +1,9 @@
 -- The state that a mapper's tables hold, and the places left in them.
-use Rattle.dm_map.proofs.Prelude.{ℕ, zero, suc, Bool, true, false, cond, not, List, [], Option, Some, None, length, get_or, set, drop, drop-cons, replicate, nat_eq, nat_lt, refl, sym, ap, subst, ◌∙◌, arith, option_and_then, find, is_none, option_map, slice_get, IfSome, All, AllByRecursion, list_any, position_or_len, range_with_len, eq-eqb, eqb-true, false_from_ne_true, leb-true, le-leb, ne_eqb, lt-ltb, le-ltb, ltb-true, ltb_from_iff, or_parts, nat_tests, All-filter, All-from_get_or, All-get_or, find_at, list_any_at, get_or-range_with_len, length-range_with_len, get_or-replicate, length-set, map-append, map-set, set-get_or, get_or_from_slice_get, slice_get-map, slice_get_read, slice_get_within, DevRef, Line, Target, Reading, ResolvedLine, ResolvedSnapshot, ResolvedTarget, target_spans, whole_span, found_at, resolved_line, resolved_target, holds, line_of, Description, device_id, disk_id, is_same, lines_at, lower_len, lower_of, has_snapshot, is_snapshot, snapshots, place, resolved_snapshot, IsSound, all_lines, is_unknown, is_unknown_ref, faults_by_none, passes_all, device_some, disk_some, found, of_device, there, number_in, lost, put, with_chunk, none_taken, taken_at, AreTables, has_room, snapshot_at, snapshot_of, state_of}
+use Rattle.dm_map.proofs.Prelude.{ℕ, zero, suc, Bool, true, false, cond, not, List, [], Option, Some, None, length, get_or, set, drop, drop-cons, replicate, nat_eq, nat_lt, refl, sym, ap, subst, ◌∙◌, arith, option_and_then, find, is_none, option_map, slice_get, IfSome, All, AllByRecursion, list_any, position_or_len, range_with_len, eq-eqb, eqb-true, false_from_ne_true, leb-true, le-leb, ne_eqb, lt-ltb, le-ltb, ltb-true, ltb_from_iff, or_parts, nat_tests, All-filter, All-from_get_or, All-get_or, find_at, list_any_at, get_or-range_with_len, length-range_with_len, get_or-replicate, length-set, map-append, map-set, set-get_or, get_or_from_slice_get, slice_get-map, slice_get_read, slice_get_within, DevRef, Line, Target, Reading, ResolvedLine, ResolvedSnapshot, ResolvedTarget, target_spans, whole_span, found_at, resolved_line, resolved_target, holds, line_of, Description, device_id, disk_id, is_same, lines_at, lower_len, lower_of, has_snapshot, is_snapshot, snapshots, place, resolved_snapshot, IsSound, all_lines, is_unknown, is_unknown_ref, faults_by_none, passes_all, device_some, disk_some, found, of_device, there, number_in, lost, put, with_chunk, none_taken, taken_at, AreTables, has_room, snapshot_at, snapshot_of, state_of, Snapshot}
 use Rattle.std.proofs.lemmas.Map.Views.{any-filter_same}
 use Rattle.dm_table.specs.declared.load.load_fault.LoadKind.TheVariants.{Unknown}
 use Rattle.dm_table.specs.declared.tables.table.DevRef.TheVariants as refs
 use Rattle.dm_table.specs.declared.tables.table.Target.TheVariants as targets
-use Rattle.dm_stack.specs.declared.lines.resolved_line.ResolvedTarget.TheVariants as founds
 use Rattle.dm_map.proofs.state.Numbers.{number_is}
 use Rattle.dm_map.proofs.state.ResolvedLines.{line_there, some_line}
 use Rattle.std.specs.Prelude.{◌≡◌, ◌↔◌, ◌+◌, ◌*◌, ◌<◌, ◌≤◌, ◌∷◌, ◌++◌, ◌==◌}
@@ -169,15 +168,15 @@ pub room_place : (stack : Description) (device number : ℕ) (snapshot : Resolve
 room_place stack device number snapshot is room =
     leb-true _ _ (rw is at room)
 
-pub snapshot_room : (stack : Description) (device number count : ℕ) (line : ResolvedLine) (snapshot : ResolvedSnapshot) → found_at stack device 0 ≡ Some line → line.target ≡ founds.Snapshot snapshot → ((number < count) ↔ ((place snapshot.kind snapshot.chunk number + 1) * snapshot.chunk ≤ lower_len stack snapshot.store)) → nat_lt number count ≡ has_room stack device number
+pub snapshot_room : (stack : Description) (device number count : ℕ) (line : ResolvedLine) (snapshot : ResolvedSnapshot) → found_at stack device 0 ≡ Some line → line.target ≡ Snapshot snapshot → ((number < count) ↔ ((place snapshot.kind snapshot.chunk number + 1) * snapshot.chunk ≤ lower_len stack snapshot.store)) → nat_lt number count ≡ has_room stack device number
 snapshot_room stack device number count line snapshot is kind law =
     rw (is, kind) (sym (ltb_from_iff ((λ e. law.1 (leb-true _ _ e)), (λ less. le-leb _ _ (law.0 less)))))
 
-pub other_room : (stack : Description) (device number : ℕ) (line : ResolvedLine) → found_at stack device 0 ≡ Some line → ((snapshot : ResolvedSnapshot) → line.target ≡ founds.Snapshot snapshot → ⊥) → has_room stack device number ≡ false
+pub other_room : (stack : Description) (device number : ℕ) (line : ResolvedLine) → found_at stack device 0 ≡ Some line → ((snapshot : ResolvedSnapshot) → line.target ≡ Snapshot snapshot → ⊥) → has_room stack device number ≡ false
 other_room stack device number line is other = rw (is, none_of line.target other) refl
   where
-    none_of : (target : ResolvedTarget) → ((snapshot : ResolvedSnapshot) → target ≡ founds.Snapshot snapshot → ⊥) → snapshot_of target ≡ None
-    none_of (founds.Snapshot snapshot) other = absurd (other snapshot refl)
+    none_of : (target : ResolvedTarget) → ((snapshot : ResolvedSnapshot) → target ≡ Snapshot snapshot → ⊥) → snapshot_of target ≡ None
+    none_of (Snapshot snapshot) other = absurd (other snapshot refl)
     none_of _ other = refl
 
 -- The store of a snapshot is a device or disk of the stack
@@ -195,14 +194,14 @@ lower_some stack (refs.Disk name) sound known =
     let it = there stack.disks (disk_id stack name) (place_before (λ disk. is_same disk.name name) stack.disks known) in
     rw it.at (disk_some stack (disk_id stack name) it.it sound it.at)
 
-store_at : (stack : Description) (target : Target) (len : ℕ) (snapshot : ResolvedSnapshot) → IsSound stack → list_any (λ span. is_unknown_ref stack span.to) (target_spans len target) ≡ false → resolved_target stack target ≡ founds.Snapshot snapshot → 0 < lower_len stack snapshot.store
+store_at : (stack : Description) (target : Target) (len : ℕ) (snapshot : ResolvedSnapshot) → IsSound stack → list_any (λ span. is_unknown_ref stack span.to) (target_spans len target) ≡ false → resolved_target stack target ≡ Snapshot snapshot → 0 < lower_len stack snapshot.store
 store_at stack (targets.Snapshot origin store kind chunk_size) len snapshot sound known is =
     let same : resolved_snapshot stack origin store kind chunk_size ≡ snapshot = cc in
     let parts = or_parts (is_unknown_ref stack store) (list_any (λ span. is_unknown_ref stack span.to) (whole_span origin Reading ∷ [])) known in
     rw (← same) (lower_some stack store sound parts.0)
 store_at stack _ len snapshot sound known is = absurd cc
 
-pub store_some : (stack : Description) (device sector : ℕ) (line : ResolvedLine) (snapshot : ResolvedSnapshot) → IsSound stack → found_at stack device sector ≡ Some line → line.target ≡ founds.Snapshot snapshot → 0 < lower_len stack snapshot.store
+pub store_some : (stack : Description) (device sector : ℕ) (line : ResolvedLine) (snapshot : ResolvedSnapshot) → IsSound stack → found_at stack device sector ≡ Some line → line.target ≡ Snapshot snapshot → 0 < lower_len stack snapshot.store
 store_some stack device sector line snapshot sound is kind =
     let device_is = there stack.devices device (line_there stack device sector line is) in
     let lines = device_is.it.lines in

@@ -1,7 +1,6 @@
 -- Walks and bounds on their searches, for sectors of a line by what lies below, and for sectors of a device in one line.
-use Rattle.dm_map.proofs.Prelude.{ℕ, suc, false, List, [], Some, length, refl, sym, ap, ◌∙◌, arith, nat_lt, Result, ne_eqb, mul-le-mul_right, Op, Read, ResolvedLine, ResolvedTarget, Lower, Device, Below, Lies, below_target, found_at, is_same_chunk, IsLineOf, Description, device_len, stack_depth, IsSound, depth_of, SinkPast, IsMapped, found_mapping, range_mapping, target_mapping, target_path, PathStep, is_same_path, path, read_stretches, stretches, by_below, read_over, State, taken_at, Step, steps, WalkerView, line_step, refuses}
+use Rattle.dm_map.proofs.Prelude.{ℕ, suc, false, List, [], Some, length, refl, sym, ap, ◌∙◌, arith, nat_lt, Result, ne_eqb, mul-le-mul_right, Op, Read, ResolvedLine, ResolvedTarget, Lower, Device, Below, Lies, below_target, found_at, is_same_chunk, IsLineOf, Description, device_len, stack_depth, IsSound, depth_of, SinkPast, IsMapped, found_mapping, range_mapping, target_mapping, target_path, PathStep, is_same_path, path, read_stretches, stretches, by_below, read_over, State, taken_at, Step, steps, WalkerView, line_step, refuses, MOST_DEPTH}
 use Rattle.dm_stack.specs.Prelude.{chunk_at}
-use Rattle.dm_stack.specs.declared.checks.graph.TheConstants.{MOST_DEPTH}
 use Rattle.dm_map.proofs.walk.Depths.{below_less, depth_most, depth_some}
 use Rattle.dm_map.proofs.walk.Paths.{other_chunk, other_start, searches_below, searches_line, stretches_below, stretches_same}
 use Rattle.dm_map.proofs.walk.Ranges.{range_line}

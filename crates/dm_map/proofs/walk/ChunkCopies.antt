@@ -1,6 +1,5 @@
 -- Copies and writes of a chunk's sectors, to where the store keeps them.
-use Rattle.dm_map.proofs.Prelude.{ℕ, false, refl, sym, ap, subst, ◌∙◌, arith, Read, ResolvedSnapshot, Lower, HomeStretch, Ground, Stretch, AreAdded, GoOn, IsFirstHomes, home, store_sector, any_error, copy_to, home_in_store, is_error, read, reads_all, row, write_to, keep, ground_unit, IsFirstOf, IsGroundInStack, SinkPast, BlockUnit, WriteOf, units_in, StackState, WalkerView, stack_state, range_step}
-use Rattle.dm_stack.specs.declared.checks.graph.TheConstants.{MOST_DEPTH}
+use Rattle.dm_map.proofs.Prelude.{ℕ, false, refl, sym, ap, subst, ◌∙◌, arith, Read, ResolvedSnapshot, Lower, HomeStretch, Ground, Stretch, AreAdded, GoOn, IsFirstHomes, home, store_sector, any_error, copy_to, home_in_store, is_error, read, reads_all, row, write_to, keep, ground_unit, IsFirstOf, IsGroundInStack, SinkPast, BlockUnit, WriteOf, units_in, StackState, WalkerView, stack_state, range_step, MOST_DEPTH}
 use Rattle.dm_map.specs.declared.walk.stretch.Ground.TheVariants as grounds
 use Rattle.dm_map.proofs.walk.Chunks.{store_sector_on}
 use Rattle.dm_map.proofs.walk.Rows.{none_added}

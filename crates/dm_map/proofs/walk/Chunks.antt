@@ -1,6 +1,5 @@
 -- The sectors of one chunk of a snapshot: where they are read, and that they are written there once the chunk is settled.
-use Rattle.dm_map.proofs.Prelude.{ℕ, zero, suc, true, false, inl, inr, List, [], Option, Some, None, length, append_assoc, refl, sym, ap, subst, ◌∙◌, arith, min, cases_lt, div-add-mod', mod-mul-add, ResolvedSnapshot, ResolvedLine, Snapshot, Lies, found_at, IsLine, IsSnapshotSound, Description, lower_len, place, ReadAt, HomeStretch, home, number_in, store_sector, read_numbered, read_over, first_of, home_in_store, is_refused, is_settled, take_chunk, row, store_writes, unit_in_store, write_snapshot, write_to, State, Taken, taken_at, keep, and_then, steps, has_room, BlockUnit, WriteOf, Fails, units_in, sector_step, OfBeginning, line_step, range_step, target_step, AreInChunk, AreInSnapshot, AreReadAt, IsTakenAs, device_there, in_chunk}
-use Rattle.dm_table.specs.declared.requests.request.Op.TheVariants as ops
+use Rattle.dm_map.proofs.Prelude.{ℕ, zero, suc, true, false, inl, inr, List, [], Option, Some, None, length, append_assoc, refl, sym, ap, subst, ◌∙◌, arith, min, cases_lt, div-add-mod', mod-mul-add, ResolvedSnapshot, ResolvedLine, Snapshot, Lies, found_at, IsLine, IsSnapshotSound, Description, lower_len, place, ReadAt, HomeStretch, home, number_in, store_sector, read_numbered, read_over, first_of, home_in_store, is_refused, is_settled, take_chunk, row, store_writes, unit_in_store, write_snapshot, write_to, State, Taken, taken_at, keep, and_then, steps, has_room, BlockUnit, WriteOf, Fails, units_in, sector_step, OfBeginning, line_step, range_step, target_step, AreInChunk, AreInSnapshot, AreReadAt, IsTakenAs, device_there, in_chunk, Read, Write}
 use Rattle.dm_map.proofs.state.TableLemmas.{room_place}
 use Rattle.dm_map.proofs.walk.ChunkTaking.{chunk_part, refused_part, settled_part, write_is}
 use Rattle.dm_map.proofs.walk.Rows.{left_more, steps_read, steps_same, steps_still}
@@ -96,19 +95,19 @@ read_on stack state device sector part count snapshot source next first later on
       inside = omega (arith, more.inside);
     }
 
-pub chunk_read : (stack : Description) (levels device sector n len : ℕ) (snapshot : ResolvedSnapshot) (state : State) (source : ReadAt) → AreReadAt stack state device snapshot sector len source → n ≤ len → line_step stack ops.Read levels device (Snapshot snapshot) state sector n ≡ range_step stack ops.Read levels source.to state source.sector n
+pub chunk_read : (stack : Description) (levels device sector n len : ℕ) (snapshot : ResolvedSnapshot) (state : State) (source : ReadAt) → AreReadAt stack state device snapshot sector len source → n ≤ len → line_step stack Read levels device (Snapshot snapshot) state sector n ≡ range_step stack Read levels source.to state source.sector n
 chunk_read stack levels device sector n len snapshot state source at few =
-    steps_read (target_step stack ops.Read levels device (Snapshot snapshot)) (sector_step stack ops.Read levels source.to) state sector source.sector n
+    steps_read (target_step stack Read levels device (Snapshot snapshot)) (sector_step stack Read levels source.to) state sector source.sector n
     (λ i within. cc (at.lies i (omega (arith, within, few)))) (λ i within. refl)
 
-pub lost_read : (stack : Description) (levels device sector n : ℕ) (snapshot : ResolvedSnapshot) (state : State) → (taken_at state device).valid ≡ false → line_step stack ops.Read levels device (Snapshot snapshot) state sector n ≡ keep (units_in Fails n) state
+pub lost_read : (stack : Description) (levels device sector n : ℕ) (snapshot : ResolvedSnapshot) (state : State) → (taken_at state device).valid ≡ false → line_step stack Read levels device (Snapshot snapshot) state sector n ≡ keep (units_in Fails n) state
 lost_read stack levels device sector n snapshot state off =
-    steps_still (target_step stack ops.Read levels device (Snapshot snapshot)) state sector n Fails refl (λ i within. rw off refl)
+    steps_still (target_step stack Read levels device (Snapshot snapshot)) state sector n Fails refl (λ i within. rw off refl)
 
 -- Writes of a chunk's sectors
 
-pub write_line_step : (stack : Description) (levels device sector n : ℕ) (snapshot : ResolvedSnapshot) (state : State) → steps (write_snapshot stack snapshot device) state sector n ≡ line_step stack ops.Write levels device (Snapshot snapshot) state sector n
-write_line_step stack levels device sector n snapshot state = steps_same (write_snapshot stack snapshot device) (target_step stack ops.Write levels device (Snapshot snapshot)) state sector sector n (λ after i within. refl)
+pub write_line_step : (stack : Description) (levels device sector n : ℕ) (snapshot : ResolvedSnapshot) (state : State) → steps (write_snapshot stack snapshot device) state sector n ≡ line_step stack Write levels device (Snapshot snapshot) state sector n
+write_line_step stack levels device sector n snapshot state = steps_same (write_snapshot stack snapshot device) (target_step stack Write levels device (Snapshot snapshot)) state sector sector n (λ after i within. refl)
 
 -- writes to a chunk with a number go to its place in the store
 

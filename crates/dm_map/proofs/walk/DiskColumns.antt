@@ -1,7 +1,5 @@
 -- A striped line whose columns are all on disks: a sink receives all of its legs at once.
-use Rattle.dm_map.proofs.Prelude.{ℕ, zero, suc, true, false, [], refl, sym, ap, ◌∙◌, arith, Result, on_ok_weaker, Op, Disk, ResolvedLine, ResolvedTarget, on_ok, Description, Below, Lies, below_plain, has_state, IsLine, has_disk_columns, AreOnDisks, LegsView, sector_on_disk, IsOnADisk, AreHanded, SinkPast, below_unit, legs_units, line_units, State, WalkerView, IsMapped, target_mapping, write_step, below_step, line_step, target_step, read_unit, Step, keep, steps}
-use Rattle.dm_table.specs.declared.requests.request.Op.TheVariants as ops
-use Rattle.dm_stack.specs.declared.lines.resolved_line.ResolvedTarget.TheVariants as found
+use Rattle.dm_map.proofs.Prelude.{ℕ, zero, suc, true, false, [], refl, sym, ap, ◌∙◌, arith, Result, on_ok_weaker, Op, Disk, ResolvedLine, ResolvedTarget, on_ok, Description, Below, Lies, below_plain, has_state, IsLine, has_disk_columns, AreOnDisks, LegsView, sector_on_disk, IsOnADisk, AreHanded, SinkPast, below_unit, legs_units, line_units, State, WalkerView, IsMapped, target_mapping, write_step, below_step, line_step, target_step, read_unit, Step, keep, steps, Read, Write, Striped}
 use Rattle.dm_map.proofs.walk.Ranges.{plain_step}
 use Rattle.dm_map.proofs.walk.Rows.{none_added, walked_as}
 use Rattle.std.specs.Prelude.{◌≡◌, ◌+◌, ◌≤◌, ◌∷◌}
@@ -14,13 +12,13 @@ legs_on_disks stack other device line legs distance len same of inside each made
 
 -- the step of one sector of the line
 disk_plain : (target : ResolvedTarget) → has_disk_columns target ≡ true → has_state target ≡ false
-disk_plain (found.Striped chunk columns) each = refl
+disk_plain (Striped chunk columns) each = refl
 disk_plain target each = absurd cc
 
 below_disk : (stack : Description) (op : Op) (levels disk sector : ℕ) (state : State) → below_step stack op levels (Lies (Disk disk) sector) state ≡ keep (below_unit op (Lies (Disk disk) sector) ∷ []) state
 unfolding read_unit write_step
-below_disk stack ops.Read levels disk sector state = refl
-below_disk stack ops.Write levels disk sector state = refl
+below_disk stack Read levels disk sector state = refl
+below_disk stack Write levels disk sector state = refl
 
 disk_sector : (stack : Description) (op : Op) (levels device distance : ℕ) (target : ResolvedTarget) (state : State) → has_state target ≡ false → IsOnADisk (below_plain target distance) → target_step stack op levels device target state distance ≡ keep (below_unit op (below_plain target distance) ∷ []) state
 disk_sector stack op levels device distance target state plain on =

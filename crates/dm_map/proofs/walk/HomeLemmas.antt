@@ -1,6 +1,5 @@
 -- Requests whose sectors lie in a row on a disk, and the results of those that were handed to the sink.
-use Rattle.dm_map.proofs.Prelude.{ℕ, false, List, Some, refl, sym, ◌∙◌, arith, Option, Result, Ok, Err, Op, ResolvedLine, Lower, Disk, Description, IsLineOf, disk_there, IsHanded, SinkPast, BlockUnit, disk_unit, units_in, read_over, taken_at, WalkerView, IsMapped, Mapping, found_mapping, range_mapping, IsHome, handed, or_home, range_step, refuses, IsLegOf, IsWalked, Step, keep}
-use Rattle.dm_stack.specs.declared.checks.graph.TheConstants.{MOST_DEPTH}
+use Rattle.dm_map.proofs.Prelude.{ℕ, false, List, Some, refl, sym, ◌∙◌, arith, Option, Result, Ok, Err, Op, ResolvedLine, Lower, Disk, Description, IsLineOf, disk_there, IsHanded, SinkPast, BlockUnit, disk_unit, units_in, read_over, taken_at, WalkerView, IsMapped, Mapping, found_mapping, range_mapping, IsHome, handed, or_home, range_step, refuses, IsLegOf, IsWalked, Step, keep, MOST_DEPTH}
 use Rattle.dm_stack.specs.declared.lines.leg.Beneath.TheVariants.{Lies}
 use Rattle.dm_map.specs.declared.walk.home.Home.{Home}
 use Rattle.dm_map.proofs.walk.Bounds.{mapped_below, mapped_line}

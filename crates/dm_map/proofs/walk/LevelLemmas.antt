@@ -1,10 +1,7 @@
 -- If the limit on levels is at least a device's depth, it makes no difference.
-use Rattle.dm_map.proofs.Prelude.{ℕ, zero, suc, Bool, true, false, cond, List, [], Option, Some, None, length, map, refl, ap, subst, ◌∙◌, arith, option_map, slice_get, nat_lt, AllByRecursion, flat_map, ltb-false, get_or_from_slice_get, slice_get-map, DevRef, Target, Reading, Line, DeviceSpec, Lower, Device, Disk, ResolvedLine, ResolvedTarget, ResolvedSnapshot, Span, target_spans, whole_span, Description, lower_of, ref_link, device_links, links, lines_or_none, links_of, greatest, depth_to, Below, Lies, IsZero, IsError, below, below_line, below_plain, below_target, resolved_line, resolved_target, found_at, holds, line_of, resolved_snapshot, IsSound, depth_of, line_links, passes_all, found, none_at, Zeros, Drops, Fails, serve, number_in, read_numbered, read_over, State, Taken, taken_at, Step, keep, by_below, read_below, read_unit, AreHomesFreeOfLevels, home_to, nowhere, write_line, write_target, write_step, IsFreeOfLevels, all_parts, at_index}
+use Rattle.dm_map.proofs.Prelude.{ℕ, zero, suc, Bool, true, false, cond, List, [], Option, Some, None, length, map, refl, ap, subst, ◌∙◌, arith, option_map, slice_get, nat_lt, AllByRecursion, flat_map, ltb-false, get_or_from_slice_get, slice_get-map, DevRef, Target, Reading, Line, DeviceSpec, Lower, Device, Disk, ResolvedLine, ResolvedTarget, ResolvedSnapshot, Span, target_spans, whole_span, Description, lower_of, ref_link, device_links, links, lines_or_none, links_of, greatest, depth_to, Below, Lies, IsZero, IsError, below, below_line, below_plain, below_target, resolved_line, resolved_target, found_at, holds, line_of, resolved_snapshot, IsSound, depth_of, line_links, passes_all, found, none_at, Zeros, Drops, Fails, serve, number_in, read_numbered, read_over, State, Taken, taken_at, Step, keep, by_below, read_below, read_unit, AreHomesFreeOfLevels, home_to, nowhere, write_line, write_target, write_step, IsFreeOfLevels, all_parts, at_index, MOST_DEPTH, Read, Write, Origin, Snapshot}
 use Rattle.dm_table.specs.declared.tables.table.DevRef.TheVariants as refs
 use Rattle.dm_table.specs.declared.tables.table.Target.TheVariants as targets
-use Rattle.dm_table.specs.declared.requests.request.Op.TheVariants as ops
-use Rattle.dm_stack.specs.declared.checks.graph.TheConstants.{MOST_DEPTH}
-use Rattle.dm_stack.specs.declared.lines.resolved_line.ResolvedTarget.TheVariants as founds
 use Rattle.dm_map.proofs.walk.Rows.{and_then_at}
 use Rattle.dm_map.proofs.walk.Spans.{plain_span, span_index}
 use Rattle.std.specs.Prelude.{◌≡◌, ◌+◌, ◌-◌, ◌/◌, ◌<◌, ◌≤◌, ◌∷◌}
@@ -128,8 +125,8 @@ same_read stack state (suc n) (suc j) (suc k) (Device device) sector h =
 same_target : (P : ℕ → Type 0) (stack : Description) (state : State) (device : ℕ) (target : ResolvedTarget) (distance : ℕ) (f h : Lower → State → ℕ → Step) → OnBelow P (below_target (read_over (taken_at state device)) target distance) → ((after : State) (to : Lower) (s : ℕ) → OnLower P to → f to after s ≡ h to after s)
     → write_target stack state device target distance f ≡ write_target stack state device target distance h
 unfolding OnBelow
-same_target P stack state device (founds.Snapshot snapshot) distance f h on same = refl
-same_target P stack state device (founds.Origin origin) distance f h on same =
+same_target P stack state device (Snapshot snapshot) distance f h on same = refl
+same_target P stack state device (Origin origin) distance f h on same =
     let served = serve stack origin.over distance state in
     and_then_at served (λ after. f origin.to after distance) (λ after. h origin.to after distance) (same served.state origin.to distance on)
 same_target P stack state device target distance f h on same = same_below P (below_plain target distance) (keep (Drops ∷ []) state) (keep (Fails ∷ []) state) (λ to s. f to state s) (λ to s. h to state s) on (same state)
@@ -161,13 +158,13 @@ shallow_at : (stack : Description) (device levels : ℕ) → IsSound stack → d
 shallow_at stack device levels sound there enough =
     let most = shallow stack device sound there in record { seen = omega (arith, most); first = enough; second = most }
 
-pub reads_free : (stack : Description) → IsSound stack → IsFreeOfLevels stack ops.Read
+pub reads_free : (stack : Description) → IsSound stack → IsFreeOfLevels stack Read
 unfolding OnLower
 reads_free stack sound = record {
   same = λ device levels sector state there enough. cc (same_read stack state (suc MOST_DEPTH) levels MOST_DEPTH (Device device) sector (shallow_at stack device levels sound there enough));
 }
 
-pub writes_free : (stack : Description) → IsSound stack → IsFreeOfLevels stack ops.Write
+pub writes_free : (stack : Description) → IsSound stack → IsFreeOfLevels stack Write
 unfolding OnLower
 writes_free stack sound = record {
   same = λ device levels sector state there enough. same_write stack (suc MOST_DEPTH) levels MOST_DEPTH (Device device) state sector (shallow_at stack device levels sound there enough);

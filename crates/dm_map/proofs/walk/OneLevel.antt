@@ -1,6 +1,5 @@
 -- One level down a stack: what lies below is less deep, and a smaller limit on levels is enough for it.
-use Rattle.dm_map.proofs.Prelude.{ℕ, zero, suc, inl, inr, cond, [], Option, Some, None, length, refl, ◌∙◌, arith, AllByRecursion, cases_lt, slice_get_past, Lower, Device, Disk, ResolvedLine, Lies, IsError, below, below_line, found_at, Description, is_ro_at, links, links_of, lower_depth, IsSound, depth_of, write_line, write_step, by_below, read_below, read_unit, read, read_over, State, taken_at, keep, ReadOf, Zeros, Fails}
-use Rattle.dm_stack.specs.declared.checks.graph.TheConstants.{MOST_DEPTH}
+use Rattle.dm_map.proofs.Prelude.{ℕ, zero, suc, inl, inr, cond, [], Option, Some, None, length, refl, ◌∙◌, arith, AllByRecursion, cases_lt, slice_get_past, Lower, Device, Disk, ResolvedLine, Lies, IsError, below, below_line, found_at, Description, is_ro_at, links, links_of, lower_depth, IsSound, depth_of, write_line, write_step, by_below, read_below, read_unit, read, read_over, State, taken_at, keep, ReadOf, Zeros, Fails, MOST_DEPTH}
 use Rattle.dm_map.proofs.walk.Depths.{below_less, depth_some}
 use Rattle.dm_map.proofs.walk.LevelLemmas.{IsShallow, OnBelow, named_shallow, on_below, over_read, same_below, same_line, same_read, same_write, shallow}
 use Rattle.std.specs.Prelude.{◌≡◌, ◌-◌, ◌<◌, ◌≤◌, ◌∷◌}

@@ -1,6 +1,5 @@
 -- Where a read continues from a sector of a device: below a line without state, in a snapshot's store or origin, or in what an origin's line names.
-use Rattle.dm_map.proofs.Prelude.{ℕ, Bool, true, false, cond, Option, Some, None, refl, sym, ◌∙◌, arith, Lower, ResolvedLine, ResolvedOrigin, ResolvedSnapshot, ResolvedTarget, Lies, IsError, below, below_line, below_target, found_at, has_state, Description, IsSound, read_below, store_sector, number_in, read_numbered, read_over, State, taken_at, origin_at, snapshot_at}
-use Rattle.dm_stack.specs.declared.lines.resolved_line.ResolvedTarget.TheVariants as founds
+use Rattle.dm_map.proofs.Prelude.{ℕ, Bool, true, false, cond, Option, Some, None, refl, sym, ◌∙◌, arith, Lower, ResolvedLine, ResolvedOrigin, ResolvedSnapshot, ResolvedTarget, Lies, IsError, below, below_line, below_target, found_at, has_state, Description, IsSound, read_below, store_sector, number_in, read_numbered, read_over, State, taken_at, origin_at, snapshot_at, Origin, Snapshot}
 use Rattle.dm_map.proofs.state.ResolvedLines.{line_origin, line_snapshot}
 use Rattle.dm_map.proofs.walk.Spans.{IsPlainStep, below_is, sector_is}
 use Rattle.std.specs.Prelude.{◌≡◌, ◌-◌, ◌/◌}
@@ -21,12 +20,12 @@ read_step_snapshot stack state device sector lower at snapshot true None over v 
 
 read_step_target : (stack : Description) (state : State) (device sector : ℕ) (lower : Lower) (at : ℕ) (line : ResolvedLine) (target : ResolvedTarget) → IsSound stack → found_at stack device sector ≡ Some line → line.target ≡ target
     → below_target (read_over (taken_at state device)) target (sector - line.start) ≡ Lies lower at → ReadStep stack state device sector lower at
-read_step_target stack state device sector lower at line (founds.Snapshot snapshot) sound is t e =
+read_step_target stack state device sector lower at line (Snapshot snapshot) sound is t e =
     let over = line_snapshot stack device sector line snapshot sound is t in
     let same : sector - line.start ≡ sector = omega (arith, over.0) in
     let there : read_over (taken_at state device) snapshot sector ≡ Lies lower at = rw same at e in
     read_step_snapshot stack state device sector lower at snapshot (taken_at state device).valid (number_in (sector / snapshot.chunk) (taken_at state device).chunks) over.1 refl refl there
-read_step_target stack state device sector lower at line (founds.Origin origin) sound is t e =
+read_step_target stack state device sector lower at line (Origin origin) sound is t e =
     let over = line_origin stack device sector line origin sound is t in
     ByServe origin over.1 (cc) (let there = sector_is _ _ _ _ e in omega (arith, there, over.0))
 read_step_target stack state device sector lower at line target sound is t e = ByLine line is (rw t (record { plain = refl; lies = e }))

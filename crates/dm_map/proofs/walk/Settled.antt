@@ -1,6 +1,5 @@
 -- Settled chunks stay settled, whatever is written.
-use Rattle.dm_map.proofs.Prelude.{inl, inr, ℕ, zero, suc, Bool, true, false, cond, not, List, [], Option, Some, None, length, refl, ap, ◌∙◌, is_some, cases_eq, cases_lt, length-set, set_past, Lower, Device, Disk, ResolvedLine, ResolvedOver, ResolvedSnapshot, ResolvedTarget, Below, Lies, below_plain, found_at, Description, is_ro_at, write_line, write_step, write_target, by_below, serve, number_in, is_refused, is_settled, take_chunk, unit_in_store, lost, put, with_chunk, State, Taken, taken_at, Step, keep, and_then, Drops, Fails}
-use Rattle.dm_stack.specs.declared.lines.resolved_line.ResolvedTarget.TheVariants as founds
+use Rattle.dm_map.proofs.Prelude.{inl, inr, ℕ, zero, suc, Bool, true, false, cond, not, List, [], Option, Some, None, length, refl, ap, ◌∙◌, is_some, cases_eq, cases_lt, length-set, set_past, Lower, Device, Disk, ResolvedLine, ResolvedOver, ResolvedSnapshot, ResolvedTarget, Below, Lies, below_plain, found_at, Description, is_ro_at, write_line, write_step, write_target, by_below, serve, number_in, is_refused, is_settled, take_chunk, unit_in_store, lost, put, with_chunk, State, Taken, taken_at, Step, keep, and_then, Drops, Fails, Origin, Snapshot}
 use Rattle.dm_map.proofs.state.Numbers.{number_kept}
 use Rattle.dm_map.proofs.walk.ChunkTaking.{ChunkOutcome, Settled, Took, Lost, chunk_outcome, taken_other, taken_same}
 use Rattle.std.specs.Prelude.{◌≡◌, ◌-◌, ◌/◌, ◌∷◌, ◌++◌, ◌||◌}
@@ -72,10 +71,10 @@ fails_or_keeps false state step keeps = keeps
 
 target_keeps : (stack : Description) (state : State) (device : ℕ) (target : ResolvedTarget) (distance : ℕ) (next : Lower → State → ℕ → Step) → Appends next → KeepsSettled state (write_target stack state device target distance next).state
 unfolding Appends
-target_keeps stack state device (founds.Snapshot snapshot) distance next keeps =
+target_keeps stack state device (Snapshot snapshot) distance next keeps =
     let made = take_chunk stack snapshot device (distance / snapshot.chunk) state in
     fails_or_keeps (is_refused stack snapshot (taken_at state device) (distance / snapshot.chunk)) state (and_then made (λ after. keep (unit_in_store stack snapshot device after distance ∷ []) after)) (take_chunk_keeps stack snapshot device (distance / snapshot.chunk) state)
-target_keeps stack state device (founds.Origin origin) distance next keeps =
+target_keeps stack state device (Origin origin) distance next keeps =
     let served = serve stack origin.over distance state in
     keeps_then state served.state (next origin.to served.state distance).state (serve_keeps stack origin.over distance state) (keeps origin.to served.state distance)
 target_keeps stack state device target distance next keeps = below_keeps (below_plain target distance) state next keeps

@@ -1,8 +1,7 @@
 -- Below a sector of a line without state lies a sector of one of the line's spans. Stripes have a span for each column; any other such target has one or none.
-use Rattle.dm_map.proofs.Prelude.{ℕ, false, List, Option, Some, None, length, refl, sym, ap, ◌∙◌, arith, map, option_map, slice_get, length-map, slice_get-map, mul-div_cancel_left, Target, Own, ResolvedColumn, ResolvedSnapshot, ResolvedTarget, Lower, Span, column_span, target_spans, Below, Lies, AreStripes, IsTargetSound, below_column, below_plain, below_target, column_of, resolved_columns, resolved_target, has_state, in_column, span_end, Description, lower_len, lower_of, in_column_room}
+use Rattle.dm_map.proofs.Prelude.{ℕ, false, List, Option, Some, None, length, refl, sym, ap, ◌∙◌, arith, map, option_map, slice_get, length-map, slice_get-map, mul-div_cancel_left, Target, Own, ResolvedColumn, ResolvedSnapshot, ResolvedTarget, Lower, Span, column_span, target_spans, Below, Lies, AreStripes, IsTargetSound, below_column, below_plain, below_target, column_of, resolved_columns, resolved_target, has_state, in_column, span_end, Description, lower_len, lower_of, in_column_room, Origin, Snapshot, Striped}
 use Rattle.dm_table.specs.declared.tables.table.Column.{Column}
 use Rattle.dm_table.specs.declared.tables.table.Target.TheVariants as targets
-use Rattle.dm_stack.specs.declared.lines.resolved_line.ResolvedTarget.TheVariants as founds
 use Rattle.dm_map.proofs.state.Numbers.{stripe_back}
 use Rattle.std.specs.Prelude.{◌≡◌, ◌+◌, ◌/◌, ◌%◌, ◌<◌}
 
@@ -16,8 +15,8 @@ sector_is a b s t e = cc
 
 -- what lies below a sector of a line without state doesn't depend on snapshots
 pub below_is : (over : ResolvedSnapshot → ℕ → Below) (target : ResolvedTarget) (distance : ℕ) → has_state target ≡ false → below_target over target distance ≡ below_plain target distance
-below_is over (founds.Snapshot snapshot) distance plain = absurd cc
-below_is over (founds.Origin origin) distance plain = absurd cc
+below_is over (Snapshot snapshot) distance plain = absurd cc
+below_is over (Origin origin) distance plain = absurd cc
 below_is over target distance plain = refl
 
 -- below the sector at this distance into a line without state lies this lower sector
@@ -29,17 +28,17 @@ pub record IsPlainStep (target : ResolvedTarget) (distance : ℕ) (lower : Lower
 
 -- the index of the span that a sector at this distance into the line lies in
 abbrev pub span_index : ResolvedTarget → (distance : ℕ) → ℕ
-span_index (founds.Striped chunk_size columns) distance = column_of chunk_size (length columns) distance
+span_index (Striped chunk_size columns) distance = column_of chunk_size (length columns) distance
 span_index _ distance = 0
 
 -- the sector's distance into its span
 abbrev pub span_distance : ResolvedTarget → (distance : ℕ) → ℕ
-span_distance (founds.Striped chunk_size columns) distance = in_column chunk_size (length columns) distance
+span_distance (Striped chunk_size columns) distance = in_column chunk_size (length columns) distance
 span_distance _ distance = distance
 
 -- two sectors of a line in the same span at the same distance are equal
 pub distance_one : (stack : Description) (device start len : ℕ) (target : ResolvedTarget) (d e : ℕ) → IsTargetSound stack device start len target → span_index target d ≡ span_index target e → span_distance target d ≡ span_distance target e → d ≡ e
-distance_one stack device start len (founds.Striped chunk_size columns) d e sound same within =
+distance_one stack device start len (Striped chunk_size columns) d e sound same within =
     let stripes : AreStripes stack len chunk_size columns = sound in
     let n = length columns in
     cc (stripe_back chunk_size n d stripes.chunk_some, stripe_back chunk_size n e stripes.chunk_some)

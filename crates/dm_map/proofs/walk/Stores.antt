@@ -1,7 +1,6 @@
 -- Each sector of an exception store is read at its home, whatever the state.
-use Rattle.dm_map.proofs.Prelude.{ℕ, zero, suc, Bool, true, false, List, [], Option, Some, None, length, refl, sym, ◌∙◌, arith, not, option_map, AllByRecursion, list_all, and_parts, Line, Target, ResolvedLine, ResolvedSnapshot, Lower, Device, Disk, Span, spans, target_spans, Below, Lies, IsError, below, below_line, below_plain, below_target, column_of, found_at, resolved_columns, resolved_line, resolved_target, has_state, holds, line_of, IsTargetSound, Description, device_len, is_ro_at, lines_at, lower_len, lower_of, IsSound, is_plain, is_store_to, IsStore, HoldsSoundly, found, sector_found, there, Ground, home, home_to, read_unit, read, row, read_over, State, taken_at, ground_unit, ReadOf, units_in, plain_inside, device_there, at_index}
+use Rattle.dm_map.proofs.Prelude.{ℕ, zero, suc, Bool, true, false, List, [], Option, Some, None, length, refl, sym, ◌∙◌, arith, not, option_map, AllByRecursion, list_all, and_parts, Line, Target, ResolvedLine, ResolvedSnapshot, Lower, Device, Disk, Span, spans, target_spans, Below, Lies, IsError, below, below_line, below_plain, below_target, column_of, found_at, resolved_columns, resolved_line, resolved_target, has_state, holds, line_of, IsTargetSound, Description, device_len, is_ro_at, lines_at, lower_len, lower_of, IsSound, is_plain, is_store_to, IsStore, HoldsSoundly, found, sector_found, there, Ground, home, home_to, read_unit, read, row, read_over, State, taken_at, ground_unit, ReadOf, units_in, plain_inside, device_there, at_index, MOST_DEPTH}
 use Rattle.dm_table.specs.declared.tables.table.Target.TheVariants as targets
-use Rattle.dm_stack.specs.declared.checks.graph.TheConstants.{MOST_DEPTH}
 use Rattle.dm_map.specs.declared.walk.stretch.Ground.TheVariants as grounds
 use Rattle.dm_map.proofs.walk.Spans.{below_is, plain_span, span_index}
 use Rattle.dm_map.proofs.walk.UnitRows.{row_same}

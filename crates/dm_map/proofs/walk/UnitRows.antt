@@ -1,7 +1,5 @@
 -- Units of consecutive sectors, and the stretches in which each continues the one before.
-use Rattle.dm_map.proofs.Prelude.{ℕ, zero, suc, Bool, true, false, List, [], refl, sym, ap, ◌∙◌, arith, Lower, Description, Home, GoOn, read_unit, IsLawful, OfBeginning, SinkPast, row, read, is_error, any_error, copy_to, write_to, State, Step, keep, Ground, ground_unit, unit_at, BlockUnit, ReadOf, WriteOf, Zeros, Fails, next_unit, units_in, range_step}
-use Rattle.dm_table.specs.declared.requests.request.Op.TheVariants as ops
-use Rattle.dm_stack.specs.declared.checks.graph.TheConstants.{MOST_DEPTH}
+use Rattle.dm_map.proofs.Prelude.{ℕ, zero, suc, Bool, true, false, List, [], refl, sym, ap, ◌∙◌, arith, Lower, Description, Home, GoOn, read_unit, IsLawful, OfBeginning, SinkPast, row, read, is_error, any_error, copy_to, write_to, State, Step, keep, Ground, ground_unit, unit_at, BlockUnit, ReadOf, WriteOf, Zeros, Fails, next_unit, units_in, range_step, MOST_DEPTH, Read}
 use Rattle.dm_map.specs.declared.walk.stretch.Ground.TheVariants as grounds
 use Rattle.std.specs.Prelude.{◌≡◌, ◌+◌, ◌-◌, ◌<◌, ◌≤◌, ◌∷◌, ◌++◌, ◌||◌}
 
@@ -24,13 +22,13 @@ row_same {X} f h s t (suc n) each =
     cc
 
 -- the step of a read is the list of its units
-pub read_row : (stack : Description) (levels : ℕ) (lower : Lower) (state : State) (sector n : ℕ) → range_step stack ops.Read levels lower state sector n ≡ keep (row (read_unit stack state levels lower) sector n) state
+pub read_row : (stack : Description) (levels : ℕ) (lower : Lower) (state : State) (sector n : ℕ) → range_step stack Read levels lower state sector n ≡ keep (row (read_unit stack state levels lower) sector n) state
 read_row stack levels lower state sector zero = refl
 read_row stack levels lower state sector (suc n) =
     cc (read_row stack levels lower state (suc sector) n)
 
 -- the units of a first stretch are those of its ground
-pub first_reads : (stack : Description) (state : State) (lower : Lower) (sector n : ℕ) (unit : BlockUnit) → range_step stack ops.Read MOST_DEPTH lower state sector n ≡ keep (units_in unit n) state → row (read stack state lower) sector n ≡ units_in unit n
+pub first_reads : (stack : Description) (state : State) (lower : Lower) (sector n : ℕ) (unit : BlockUnit) → range_step stack Read MOST_DEPTH lower state sector n ≡ keep (units_in unit n) state → row (read stack state lower) sector n ≡ units_in unit n
 first_reads stack state lower sector n unit is = ap (λ (step : Step). step.units) (sym (read_row stack MOST_DEPTH lower state sector n) ∙ is)
 
 first_of_units : (us : List BlockUnit) (u v : BlockUnit) (vs : List BlockUnit) → u ∷ us ≡ v ∷ vs → (u ≡ v) × (us ≡ vs)

@@ -1,7 +1,6 @@
 -- Proofs that a list of pieces is a lawful sink. They are among the specs since the `impl Sink` imports them.
 use Rattle.dm_map.specs.Base.{List, [], append_assoc, sym, ap, ◌∙◌, append-nil}
-use Rattle.dm_map.specs.pieces.Units.{BlockUnit}
-use Rattle.dm_map.specs.pieces.Sink.{OfBeginning}
+use Rattle.dm_map.specs.Prelude.{BlockUnit, OfBeginning}
 use Rattle.dm_map.specs.pieces.PieceList.{PieceListView, Appends, units_of_all}
 use Rattle.std.specs.Prelude.{◌++◌}
 

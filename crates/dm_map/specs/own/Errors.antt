@@ -1,6 +1,5 @@
 -- Why a read fails, and what makes a snapshot lost.
-use Rattle.dm_map.specs.Base.{ℕ, true, false, Some, Op, Lower, Device, ResolvedLine, ResolvedSnapshot, found_at, Description, device_len}
-use Rattle.dm_stack.specs.declared.lines.resolved_line.ResolvedTarget.TheVariants as found
+use Rattle.dm_map.specs.Base.{ℕ, true, false, Some, Op, Lower, Device, ResolvedLine, ResolvedSnapshot, found_at, Description, device_len, Error}
 use Rattle.dm_map.specs.own.Halts.{state_past}
 use Rattle.dm_map.specs.own.Losses.{AreLosing, IsLostIn, due}
 use Rattle.dm_map.specs.own.Tops.{write}
@@ -15,7 +14,7 @@ use Rattle.std.specs.Prelude.{◌≡◌, ◌↔◌, ◌<◌}
 
 -- a read that reaches this sector of a device fails there: its line is an `error` line, or the device is a lost snapshot
 pub data EndsHere (stack : Description) (state : State) (device sector : ℕ) : Type 0 where
-  AtError : (line : ResolvedLine) → found_at stack device sector ≡ Some line → line.target ≡ found.Error → EndsHere stack state device sector
+  AtError : (line : ResolvedLine) → found_at stack device sector ≡ Some line → line.target ≡ Error → EndsHere stack state device sector
   AtLost : (snapshot : ResolvedSnapshot) → snapshot_at stack device ≡ Some snapshot → (taken_at state device).valid ≡ false → EndsHere stack state device sector
 
 -- the path of a read reaches a sector at which reads fail

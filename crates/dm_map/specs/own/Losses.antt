@@ -1,7 +1,5 @@
 -- Writes that make a snapshot lost: those that must copy a chunk to its store but cannot (the kernel's admin guide, device-mapper/snapshot).
-use Rattle.dm_map.specs.Base.{ℕ, zero, suc, true, false, List, [], None, Option, Some, length, map, Op, Write, Lower, Device, Disk, ResolvedLine, ResolvedOver, ResolvedSnapshot, ResolvedTarget, Description, device_len, is_ro_at, below_plain, found_at}
-use Rattle.dm_stack.specs.declared.checks.graph.TheConstants.{MOST_DEPTH}
-use Rattle.dm_stack.specs.declared.lines.resolved_line.ResolvedTarget.TheVariants as found
+use Rattle.dm_map.specs.Base.{ℕ, zero, suc, true, false, List, [], None, Option, Some, length, map, Op, Write, Lower, Device, Disk, ResolvedLine, ResolvedOver, ResolvedSnapshot, ResolvedTarget, Description, device_len, is_ro_at, below_plain, found_at, MOST_DEPTH, Origin, Snapshot}
 use Rattle.dm_map.specs.own.Halts.{state_past}
 use Rattle.dm_map.specs.walk.Reads.{by_below}
 use Rattle.dm_map.specs.walk.Serving.{serve}
@@ -25,9 +23,9 @@ due_over over sector = map (λ one. record { device = one.device; snapshot = one
 
 -- the due chunks of a write at a distance into a line with this target: a snapshot's own chunk, unless the write is refused; for an origin those of its snapshots, and then those below
 abbrev pub due_at_target : Description → State → (device : ℕ) → ResolvedTarget → (distance : ℕ) → (Lower → State → ℕ → List Due) → List Due
-due_at_target stack state device (found.Snapshot snapshot) distance next =
+due_at_target stack state device (Snapshot snapshot) distance next =
     if is_refused stack snapshot (taken_at state device) (distance / snapshot.chunk) then [] else record { device = device; snapshot = snapshot; chunk = distance / snapshot.chunk } ∷ []
-due_at_target stack state device (found.Origin origin) distance next = due_over origin.over distance ++ next origin.to (serve stack origin.over distance state).state distance
+due_at_target stack state device (Origin origin) distance next = due_over origin.over distance ++ next origin.to (serve stack origin.over distance state).state distance
 due_at_target stack state device target distance next = by_below (below_plain target distance) [] [] (λ to sector. next to state sector)
 
 -- the due chunks of a write to a sector of a device, by the line that holds the sector

@@ -1,6 +1,5 @@
 -- The write of one sector of a top device, and what all top devices read afterwards.
-use Rattle.dm_map.specs.Base.{ℕ, true, false, List, [], AllByRecursion, Lower, Device, IsTop, Description}
-use Rattle.dm_stack.specs.declared.checks.graph.TheConstants.{MOST_DEPTH}
+use Rattle.dm_map.specs.Base.{ℕ, true, false, List, [], AllByRecursion, Lower, Device, IsTop, Description, MOST_DEPTH}
 use Rattle.dm_map.specs.own.Contents.{Values, Stays, answers, content, played}
 use Rattle.dm_map.specs.state.Fitting.{IsFitting}
 use Rattle.dm_map.specs.walk.Mapping.{write_step}

@@ -1,6 +1,5 @@
 -- A sink that keeps all pieces in a list.
-use Rattle.dm_map.specs.Base.{ℕ, List, flat_map, Description, Piece}
-use Rattle.dm_map.specs.pieces.Units.{BlockUnit, units_of}
+use Rattle.dm_map.specs.Prelude.{ℕ, List, flat_map, Description, Piece, BlockUnit, units_of}
 use Rattle.std.specs.Prelude.{◌≡◌, ◌++◌}
 
 -- the stack whose disks the pieces lie on, the pieces kept so far, and how many pieces could not be kept

@@ -1,6 +1,5 @@
 -- Units, the operations on single sectors; the units of a piece, and when a piece lies within the disks.
-use Rattle.dm_map.specs.Base.{ℕ, zero, suc, List, [], length, Op, Device, Disk, ResolvedTarget, Description, disk_len, Below, Lies, below_plain, LegsView, Piece}
-use Rattle.dm_table.specs.declared.requests.request.Op.TheVariants as ops
+use Rattle.dm_map.specs.Base.{ℕ, zero, suc, List, [], length, Op, Disk, ResolvedTarget, Description, disk_len, Below, Lies, below_plain, LegsView, Piece, Read, Write}
 use Rattle.dm_map.specs.declared.pieces.piece.Piece.TheVariants as pieces
 use Rattle.std.specs.Prelude.{◌+◌, ◌<◌, ◌≤◌, ◌∷◌}
 
@@ -31,8 +30,8 @@ units_in unit (suc len) = unit ∷ units_in (next_unit unit) len
 
 -- the read or the write of a sector of a disk
 abbrev pub disk_unit : Op → (disk sector : ℕ) → BlockUnit
-disk_unit ops.Read disk sector = ReadOf disk sector
-disk_unit ops.Write disk sector = WriteOf disk sector
+disk_unit Read disk sector = ReadOf disk sector
+disk_unit Write disk sector = WriteOf disk sector
 
 -- the read or the write of the sector below, if that is on a disk; else an error
 abbrev pub below_unit : Op → Below → BlockUnit

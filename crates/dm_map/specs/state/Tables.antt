@@ -1,6 +1,5 @@
 -- A table of taken chunks for each device of a stack, and the state that these tables hold.
-use Rattle.dm_map.specs.Base.{ℕ, Bool, false, List, Option, Some, None, length, map, nat_lt, slice_get, option_and_then, ResolvedOrigin, ResolvedSnapshot, ResolvedTarget, Description, device_len, found_at}
-use Rattle.dm_stack.specs.declared.lines.resolved_line.ResolvedTarget.TheVariants as found
+use Rattle.dm_map.specs.Base.{ℕ, Bool, false, List, Option, Some, None, length, map, nat_lt, slice_get, option_and_then, ResolvedOrigin, ResolvedSnapshot, ResolvedTarget, Description, device_len, found_at, Origin, Snapshot}
 use Rattle.dm_map.specs.state.Snapshots.{has_place}
 use Rattle.dm_map.specs.state.State.{State}
 use Rattle.std.specs.Prelude.{◌≡◌, ◌+◌, ◌-◌, ◌/◌}
@@ -11,7 +10,7 @@ state_of chunks valid tables = map (λ table. record { chunks = chunks table; va
 
 -- the snapshot of a target, if the target is one; a target not listed here is none
 abbrev pub snapshot_of : ResolvedTarget → Option ResolvedSnapshot
-snapshot_of (found.Snapshot snapshot) = Some snapshot
+snapshot_of (Snapshot snapshot) = Some snapshot
 snapshot_of _ = None
 
 -- the snapshot that a device is, if the line that holds its sector 0 is a snapshot line
@@ -20,7 +19,7 @@ snapshot_at stack device = option_and_then (λ line. snapshot_of line.target) (f
 
 -- the origin of a target, if the target is an origin; a target not listed here is none
 abbrev pub origin_of : ResolvedTarget → Option ResolvedOrigin
-origin_of (found.Origin origin) = Some origin
+origin_of (Origin origin) = Some origin
 origin_of _ = None
 
 -- the origin that a device is, if the line that holds its sector 0 is an origin line

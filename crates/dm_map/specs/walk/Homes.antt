@@ -1,6 +1,5 @@
 -- Where the sectors of an exception store lie on disks.
-use Rattle.dm_map.specs.Base.{ℕ, zero, suc, length, Lower, Device, Disk, IsError, below, Description, depth_of, HomeStretch}
-use Rattle.dm_stack.specs.declared.checks.graph.TheConstants.{MOST_DEPTH}
+use Rattle.dm_map.specs.Base.{ℕ, zero, suc, length, Lower, Device, Disk, IsError, below, Description, depth_of, HomeStretch, MOST_DEPTH}
 use Rattle.dm_map.specs.walk.Reads.{by_below}
 use Rattle.dm_map.specs.pieces.Units.{IsOnDisk}
 use Rattle.std.specs.Prelude.{◌≡◌, ◌+◌, ◌<◌, ◌≤◌}

@@ -1,8 +1,5 @@
 -- What a read or a write of each sector does (the kernel's admin guide, device-mapper/linear, striped, zero and snapshot).
-use Rattle.dm_map.specs.Base.{ℕ, zero, suc, [], Option, Some, None, length, nat_lt, replicate, Op, Request, Lower, Device, Disk, ResolvedLine, ResolvedTarget, Description, device_len, is_ro_at, below_plain, found_at, depth_of}
-use Rattle.dm_table.specs.declared.requests.request.Op.TheVariants as ops
-use Rattle.dm_stack.specs.declared.lines.resolved_line.ResolvedTarget.TheVariants as found
-use Rattle.dm_stack.specs.declared.checks.graph.TheConstants.{MOST_DEPTH}
+use Rattle.dm_map.specs.Base.{ℕ, zero, suc, [], Option, Some, None, length, nat_lt, replicate, Op, Request, Lower, Device, Disk, ResolvedLine, ResolvedTarget, Description, device_len, is_ro_at, below_plain, found_at, depth_of, MOST_DEPTH, Read, Write, Origin, Snapshot}
 use Rattle.dm_map.specs.walk.Reads.{by_below, read_unit}
 use Rattle.dm_map.specs.walk.Serving.{served_step}
 use Rattle.dm_map.specs.walk.SnapshotWrites.{write_snapshot}
@@ -13,8 +10,8 @@ use Rattle.std.specs.Prelude.{◌+◌, ◌-◌, ◌≡◌, ◌≤◌, ◌<◌, �
 
 -- the write of a sector at a distance into a line with this target, given the write of a sector below: a zero target discards it, and an origin first takes the chunk in its snapshots
 abbrev pub write_target : Description → State → (device : ℕ) → ResolvedTarget → (distance : ℕ) → (Lower → State → ℕ → Step) → Step
-write_target stack state device (found.Snapshot snapshot) distance next = write_snapshot stack snapshot device state distance
-write_target stack state device (found.Origin origin) distance next = served_step stack origin.over (next origin.to) state distance
+write_target stack state device (Snapshot snapshot) distance next = write_snapshot stack snapshot device state distance
+write_target stack state device (Origin origin) distance next = served_step stack origin.over (next origin.to) state distance
 write_target stack state device target distance next = by_below (below_plain target distance) (keep (Drops ∷ []) state) (keep (Fails ∷ []) state) (λ to sector. next to state sector)
 
 -- the write of a sector of a device, by the line that holds the sector; it fails if no line does
@@ -32,8 +29,8 @@ write_step stack (suc levels) (Device device) state sector =
 
 -- the step of a sector, read or written; a read leaves the state as it is
 abbrev pub sector_step : Description → Op → ℕ → Lower → State → ℕ → Step
-sector_step stack ops.Read levels lower state sector = keep (read_unit stack state levels lower sector ∷ []) state
-sector_step stack ops.Write levels lower state sector = write_step stack levels lower state sector
+sector_step stack Read levels lower state sector = keep (read_unit stack state levels lower sector ∷ []) state
+sector_step stack Write levels lower state sector = write_step stack levels lower state sector
 
 -- the step of a request to a device: its sectors in rising order, or only errors if the request passes the device's end. `MOST_DEPTH` levels are enough for any stack
 abbrev pub request_step : Description → Op → (device start len : ℕ) → State → Step

@@ -1,6 +1,5 @@
 -- The path of a read sector down the stack, and stretches: longest runs of sectors with equal paths.
-use Rattle.dm_map.specs.Base.{ℕ, zero, suc, Bool, List, [], Option, Some, None, nat_lt, pointwise, Lower, Device, Disk, ResolvedLine, Description, device_len, below_target, chunk_at, found_at, is_same_chunk}
-use Rattle.dm_stack.specs.declared.checks.graph.TheConstants.{MOST_DEPTH}
+use Rattle.dm_map.specs.Base.{ℕ, zero, suc, Bool, List, [], Option, Some, None, nat_lt, pointwise, Lower, Device, Disk, ResolvedLine, Description, device_len, below_target, chunk_at, found_at, is_same_chunk, MOST_DEPTH}
 use Rattle.dm_map.specs.walk.Reads.{by_below}
 use Rattle.dm_map.specs.state.Snapshots.{read_over}
 use Rattle.dm_map.specs.state.State.{State, taken_at}

@@ -1,8 +1,6 @@
 -- The steps of ranges and of lines, and what a walk down the stack needs and promises for them.
-use Rattle.dm_map.specs.Base.{ℕ, Bool, false, [], Result, OnOk, OnErr, Op, Lower, ResolvedLine, ResolvedOrigin, ResolvedSnapshot, ResolvedTarget, fault_of, Description, is_ro_at, lower_len, Below, below_target, IsLine, IsLineOf, AreInside, IsBeneath, snapshots_over}
+use Rattle.dm_map.specs.Base.{ℕ, Bool, false, [], Result, OnOk, OnErr, Op, Lower, ResolvedLine, ResolvedOrigin, ResolvedSnapshot, ResolvedTarget, fault_of, Description, is_ro_at, lower_len, Below, below_target, IsLine, IsLineOf, AreInside, IsBeneath, snapshots_over, MOST_LENGTH, Read, Write}
 use Rattle.dm_stack.specs.declared.lines.leg.Leg.{Leg}
-use Rattle.dm_table.specs.declared.requests.request.Op.TheVariants as ops
-use Rattle.dm_stack.specs.declared.checks.limits.TheConstants.{MOST_LENGTH}
 use Rattle.dm_map.specs.state.Counts.{AreAdded}
 use Rattle.dm_map.specs.pieces.Sink.{OfBeginning, SinkPast}
 use Rattle.dm_map.specs.walk.Chunk.{AreInChunk, AreInSnapshot}
@@ -19,8 +17,8 @@ use Rattle.std.specs.Prelude.{◌≡◌, ◌+◌, ◌≤◌, ◌∷◌}
 
 -- the read or the write of a sector of a zero target
 abbrev pub zero_unit : Op → BlockUnit
-zero_unit ops.Read = Zeros
-zero_unit ops.Write = Drops
+zero_unit Read = Zeros
+zero_unit Write = Drops
 
 -- the step of len sectors of a device or a disk from this sector on, in rising order
 abbrev pub range_step : Description → Op → ℕ → Lower → State → (sector len : ℕ) → Step
@@ -28,9 +26,9 @@ range_step stack op levels lower state sector len = steps (sector_step stack op 
 
 -- the step of a sector at a distance into a line of a device with this target, through at most this many levels of devices below it
 abbrev pub target_step : Description → Op → ℕ → (device : ℕ) → ResolvedTarget → State → (distance : ℕ) → Step
-target_step stack ops.Read levels device target state distance =
+target_step stack Read levels device target state distance =
     keep (by_below (below_target (read_over (taken_at state device)) target distance) Zeros Fails (λ to sector. read_unit stack state levels to sector) ∷ []) state
-target_step stack ops.Write levels device target state distance = write_target stack state device target distance (λ to after sector. write_step stack levels to after sector)
+target_step stack Write levels device target state distance = write_target stack state device target distance (λ to after sector. write_step stack levels to after sector)
 
 -- the step of len sectors of a line with this target, from a distance into the line on
 abbrev pub line_step : Description → Op → ℕ → (device : ℕ) → ResolvedTarget → State → (distance len : ℕ) → Step
@@ -42,8 +40,8 @@ below_step stack op levels b state = by_below b (keep (zero_unit op ∷ []) stat
 
 -- the step of a sector of an origin's device, through at most this many levels of devices below it
 abbrev pub served_sector : Description → Op → ℕ → ResolvedOrigin → State → (sector : ℕ) → Step
-served_sector stack ops.Read levels origin state sector = sector_step stack ops.Read levels origin.to state sector
-served_sector stack ops.Write levels origin state sector = served_step stack origin.over (sector_step stack ops.Write levels origin.to) state sector
+served_sector stack Read levels origin state sector = sector_step stack Read levels origin.to state sector
+served_sector stack Write levels origin state sector = served_step stack origin.over (sector_step stack Write levels origin.to) state sector
 
 -- the step of len sectors of an origin's device, in rising order
 abbrev pub origin_step : Description → Op → ℕ → ResolvedOrigin → State → (sector len : ℕ) → Step
@@ -51,8 +49,8 @@ origin_step stack op levels origin state sector len = steps (served_sector stack
 
 -- the device fails all requests of this kind: writes, if it is read-only
 abbrev pub refuses : Description → Op → ℕ → Bool
-refuses stack ops.Read device = false
-refuses stack ops.Write device = is_ro_at stack device
+refuses stack Read device = false
+refuses stack Write device = is_ro_at stack device
 
 -- the sink takes pieces of this stack's disks, and has room for len sectors
 pub record HasRoomFor {S : Type 0} (past : SinkPast S) (sink : S) (of : Description) (len : ℕ) : Type 0 where

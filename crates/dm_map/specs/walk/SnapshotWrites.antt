@@ -1,8 +1,7 @@
 -- What a write to a snapshot does (the kernel's admin guide, device-mapper/snapshot): take the sector's chunk, then write the sector.
-use Rattle.dm_map.specs.Base.{ℕ, zero, suc, Bool, true, false, not, List, [], length, Option, Some, None, is_some, min, Lower, ResolvedSnapshot, Description, device_len}
+use Rattle.dm_map.specs.Base.{ℕ, zero, suc, Bool, true, false, not, List, [], length, Option, Some, None, is_some, min, Lower, ResolvedSnapshot, Description, device_len, MOST_DEPTH}
 use Rattle.dm_table.specs.declared.tables.table.StoreKind.{StoreKind}
 use Rattle.dm_table.specs.declared.tables.table.StoreKind.TheVariants.{Keeping}
-use Rattle.dm_stack.specs.declared.checks.graph.TheConstants.{MOST_DEPTH}
 use Rattle.dm_map.specs.walk.Homes.{Home, home}
 use Rattle.dm_map.specs.walk.Reads.{read_unit}
 use Rattle.dm_map.specs.state.Snapshots.{has_place, number_in, store_sector}

@@ -1,6 +1,5 @@
 -- Grounds: where a stretch of sectors is read, which is a disk, zeros, or errors.
-use Rattle.dm_map.specs.Base.{ℕ, Read, Lower, Description}
-use Rattle.dm_stack.specs.declared.checks.limits.TheConstants.{MOST_LENGTH}
+use Rattle.dm_map.specs.Base.{ℕ, Read, Lower, Description, MOST_LENGTH}
 use Rattle.dm_map.specs.declared.walk.stretch.Ground.{Ground}
 use Rattle.dm_map.specs.declared.walk.stretch.Ground.TheVariants as grounds
 use Rattle.dm_map.specs.declared.walk.stretch.Stretch.{Stretch}

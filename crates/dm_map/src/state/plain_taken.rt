@@ -3,8 +3,7 @@
 //! A look-up walks over all chunks taken so far, which suits snapshots that took few. All memory is reserved when
 //! the list is made.
 
-ghost use Rattle.dm_map.specs.Base.{length, nat_eq, IsDistinct, IsDistinct-prop};
-ghost use Rattle.dm_map.specs.state.Snapshots.{number_in};
+ghost use Rattle.dm_map.specs.Prelude.{length, nat_eq, IsDistinct, IsDistinct-prop, number_in};
 ghost use Rattle.std.specs.Prelude.{◌≡◌, ◌≤◌};
 
 use crate::state::taken::Taken;

@@ -4,10 +4,8 @@
 //! consecutive, too. Runs are sorted by chunk and found by binary search; each stores the number of its first
 //! chunk.
 
-ghost use Rattle.dm_map.specs.Base.{[], None, MatchBool, length, nat_eq, IsDistinct, IsDistinct-prop, binary_digits};
+ghost use Rattle.dm_map.specs.Prelude.{[], None, MatchBool, length, nat_eq, IsDistinct, IsDistinct-prop, binary_digits, AreBegunBy, AreRuns, GoesOn, run_at, run_count, number_in};
 ghost use Rattle.std.proofs.Props.{props};
-ghost use Rattle.dm_map.specs.state.Runs.{AreBegunBy, AreRuns, GoesOn, run_at, run_count};
-ghost use Rattle.dm_map.specs.state.Snapshots.{number_in};
 ghost use Rattle.std.specs.Prelude.{◌≡◌, ◌<◌, ◌≤◌, ◌+◌, ◌-◌, ◌^◌, ◌∷◌, ◌++◌};
 
 mod run;

@@ -5,8 +5,7 @@
 //! keep this in any form; `PlainTaken` is the simplest. A chunk's index in the list, its number, determines where
 //! in the store it is.
 
-ghost use Rattle.dm_map.specs.Base.{ℕ, [], Bool, true, false, List, None, is_none, length, nat_eq, IfOk, IsDistinct};
-ghost use Rattle.dm_map.specs.state.Snapshots.{number_in};
+ghost use Rattle.dm_map.specs.Prelude.{ℕ, [], Bool, true, false, List, None, is_none, length, nat_eq, IfOk, IsDistinct, number_in};
 ghost use Rattle.std.specs.Prelude.{◌≡◌, ◌<◌, ◌≤◌, ◌==◌, ◌∷◌, ◌++◌, if◌then◌else◌};
 
 use std::alloc::{AllocError, Global};

@@ -8,9 +8,7 @@
 //! own*, *batches and reading ahead* and *links of a batch read in a row*. If you change them, measure random
 //! first writes before and after.
 
-ghost use Rattle.dm_map.specs.Base.{[], None, true, length, nat_eq, replicate, vec_capacity, IfOk, OnOk, IsDistinct, bit_at, IsDistinct-prop, Empty, Number};
-ghost use Rattle.dm_map.specs.state.Snapshots.{number_in};
-ghost use Rattle.dm_map.specs.state.Trie.{AreInOwnSlots, IsTrie, end_of, node_at};
+ghost use Rattle.dm_map.specs.Prelude.{[], None, true, length, nat_eq, replicate, vec_capacity, IfOk, OnOk, IsDistinct, bit_at, IsDistinct-prop, Empty, Number, number_in, AreInOwnSlots, IsTrie, end_of, node_at};
 ghost use Rattle.std.specs.Prelude.{◌≡◌, ◌<◌, ◌≤◌, ◌+◌, ◌*◌, ◌^◌, ◌++◌, ◌∷◌};
 
 mod link;

@@ -2,12 +2,8 @@
 use Rattle.dm_replay.specs.Base.{ℕ, List, [], length, take, refl, sym, ap, subst, ◌∙◌, length-append, Description, BlockUnit}
 use Rattle.std.proofs.Common.{arith}
 use Rattle.std.proofs.Math.Seq.{take-append-add}
-use Rattle.dm_replay.specs.declared.halting.Halting.{Halting}
-use Rattle.dm_replay.specs.Halting.{HasHalted, HasTaken}
+use Rattle.dm_replay.specs.Prelude.{Halting, HasHalted, HasTaken, AreUnitsOf, played_both, played_nothing, HasPlayed}
 use Rattle.dm_replay.specs.laws.OfDisks.{units_of-append}
-use Rattle.dm_replay.specs.OfDisks.{AreUnitsOf}
-use Rattle.dm_replay.specs.laws.Play.{played_both, played_nothing}
-use Rattle.dm_replay.specs.Player.{HasPlayed}
 use Rattle.std.specs.Prelude.{◌≡◌, ◌+◌, ◌++◌}
 
 pub taken_nothing : (a : Halting) → HasTaken a [] a

@@ -1,6 +1,5 @@
 -- Units on a stack's disks, in two parts. The law is here because a sink's `impl` cites it.
-use Rattle.dm_replay.specs.Base.{ℕ, List, [], BlockUnit}
-use Rattle.dm_replay.specs.OfDisks.{AreUnitsOf}
+use Rattle.dm_replay.specs.Prelude.{ℕ, List, [], BlockUnit, AreUnitsOf}
 use Rattle.std.specs.Prelude.{◌∷◌, ◌++◌}
 
 pub units_of-append : (disks : ℕ) (units more : List BlockUnit) → AreUnitsOf disks units → AreUnitsOf disks more → AreUnitsOf disks (units ++ more)

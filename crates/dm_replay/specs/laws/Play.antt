@@ -1,6 +1,5 @@
 -- Laws of play: in parts, and on equal values. They are here because a sink's `impl` cites them.
-use Rattle.dm_replay.specs.Base.{ℕ, List, [], append_assoc, refl, sym, ap, ◌∙◌, append-nil, sector_after, sector_past, BlockUnit, ReadOf, past-append, unit_cong, Value}
-use Rattle.dm_map.specs.own.Contents.{played as contents_played}
+use Rattle.dm_replay.specs.Base.{ℕ, List, [], append_assoc, refl, sym, ap, ◌∙◌, append-nil, sector_after, sector_past, BlockUnit, ReadOf, past-append, unit_cong, Value, played as contents_played}
 use Rattle.dm_map.specs.laws.Contents.{played_cong as values_cong}
 use Rattle.dm_replay.specs.declared.playing.Playing.{Playing}
 use Rattle.dm_replay.specs.declared.value.Value.TheVariants as value

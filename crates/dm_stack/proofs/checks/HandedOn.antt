@@ -1,7 +1,7 @@
 -- What later checks rely on: ends of lines within the limit, and faults other than out of memory.
 use Rattle.dm_stack.proofs.Prelude.{ℕ, suc, Bool, true, false, cond, List, [], Option, Some, None, ◌∙◌, ap, drop, length, map, filter, nat_lt, All, AllByRecursion, flat_map, list_any, or_parts, ltb-false, All-from_recursion, Place, Line, DeviceSpec, LoadKind, Limit, Twice, Empty, Gap, Overlap, Unknown, Deep, Stripe, Range, Snapshot, Store, Memory, LoadFault, fault, faults_by, first_or, first_fault, spans, Description, end_of, Early, HaveSmallEnds, IsRefusedBy, Late, OnCycle, WithBefore, all_lines, checks_after, checks_before, crowded, deep, depth_of, empty, empty_in, faults_by_id, has_bad_store, has_bad_stripes, is_far, is_large, is_misplaced, is_unknown, misplaced, misplaced_in, misplaced_kind, range, snapshot, bad_snapshots_in, is_bad_snapshot, store, stripe, too_large, too_many, twice, unknown, with_before, without_lines, passes_end, all_append, all_changed, all_parts, append-nil_both}
 use Rattle.dm_stack.proofs.checks.Passes.{faults_by_none}
-use Rattle.std.specs.Prelude.{◌≡◌, ◌≢◌, ◌+◌, ◌^◌, ◌≤◌, ◌∷◌, ◌++◌, ◌||◌}
+use Rattle.std.specs.Prelude.{◌≡◌, ◌≢◌, ◌+◌, ◌^◌, ◌≤◌, ◌∷◌, ◌||◌}
 
 -- Ends of lines within the limit
 

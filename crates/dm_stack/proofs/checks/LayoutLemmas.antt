@@ -1,5 +1,5 @@
 -- Lines that start where the one before ends.
-use Rattle.dm_stack.proofs.Prelude.{ℕ, Bool, true, false, cond, not, nat_lt, inl, inr, List, [], refl, sym, ap, ◌∙◌, append_assoc, append-nil, cases_Bool, filter, map, eqb-true, not-false, LoadFault, Gap, Overlap, Line, fault, cond_none, end_of, WithBefore, is_misplaced, misplaced_in, misplaced_kind, with_before}
+use Rattle.dm_stack.proofs.Prelude.{ℕ, cond, not, nat_lt, inl, inr, List, [], refl, sym, ◌∙◌, append_assoc, append-nil, cases_Bool, filter, map, eqb-true, not-false, LoadFault, Gap, Overlap, Line, fault, cond_none, end_of, WithBefore, is_misplaced, misplaced_in, misplaced_kind, with_before}
 use Rattle.dm_stack.proofs.checks.WithBefore.{further_on}
 use Rattle.std.specs.Prelude.{◌≡◌, ◌+◌, ◌∷◌, ◌++◌, ◌==◌}
 

@@ -1,6 +1,6 @@
 -- What it means that a check finds no fault.
-use Rattle.dm_stack.proofs.Prelude.{Bool, false, List, [], map, refl, filter, AllByRecursion, Place, LoadKind, faults_by, first_fault-none, cond_none, Description, too_many, too_large, empty, misplaced, unknown, deep, stripe, range, snapshot, store, checks_before, checks_after, IsSound}
-use Rattle.std.specs.Prelude.{◌≡◌, ◌∷◌, ◌++◌}
+use Rattle.dm_stack.proofs.Prelude.{Bool, false, List, [], AllByRecursion, Place, LoadKind, faults_by, first_fault-none, cond_none, Description, too_many, too_large, empty, misplaced, unknown, deep, stripe, range, snapshot, store, checks_before, checks_after, IsSound}
+use Rattle.std.specs.Prelude.{◌≡◌, ◌∷◌}
 
 -- if a check of elements finds no fault, no element is bad
 pub faults_by_none : {X : Type 0} (kind : LoadKind) (place : X → Place) (bad : X → Bool) (xs : List X) → faults_by kind place bad xs ≡ [] → AllByRecursion (λ x. bad x ≡ false) xs
@@ -8,17 +8,6 @@ faults_by_none kind place bad [] e = tt
 faults_by_none kind place bad (x ∷ xs) e =
     let parts = cond_none (record { kind = kind; at = place x }) (faults_by kind place bad xs) (bad x) e in
     (parts.0, faults_by_none kind place bad xs parts.1)
-
-pub map_none : {X Y : Type 0} (f : X → Y) (xs : List X) → map f xs ≡ [] → xs ≡ []
-map_none f [] e = refl
-map_none f (x ∷ xs) e = absurd cc
-
--- if a filter keeps no element, each of them fails the test
-pub filter_none : {X : Type 0} (bad : X → Bool) (xs : List X) → filter bad xs ≡ [] → AllByRecursion (λ x. bad x ≡ false) xs
-filter_none bad [] e = tt
-filter_none bad (x ∷ xs) e =
-    let parts = cond_none x (filter bad xs) (bad x) e in
-    (parts.0, filter_none bad xs parts.1)
 
 -- all checks of a sound stack find nothing
 pub record Passes (stack : Description) : Type 0 where

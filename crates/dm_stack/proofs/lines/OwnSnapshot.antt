@@ -1,5 +1,5 @@
 -- The snapshot collected for a device is the one that the device's only line describes.
-use Rattle.dm_stack.proofs.Prelude.{ℕ, Bool, true, false, cond, not, List, [], Some, ap, arith, refl, sym, ◌∙◌, length, slice_get, All, Contains, flat_map, list_any, range_with_len, and_from, eqb-true, not_from_false, true_from_ne_false, All-cons, All-nil, get_or_from_slice_get, slice_get_within, DeviceSpec, Line, Target, ResolvedOver, ResolvedSnapshot, Description, lines_at, is_snapshot, resolved_target, IsSnapshotOf, all_over, copied, device_over, has_crowd, is_whole, over_of}
+use Rattle.dm_stack.proofs.Prelude.{ℕ, Bool, true, false, cond, List, [], Some, ap, arith, refl, sym, ◌∙◌, length, slice_get, All, Contains, flat_map, list_any, range_with_len, and_from, eqb-true, not_from_false, true_from_ne_false, All-cons, All-nil, get_or_from_slice_get, slice_get_within, DeviceSpec, Line, Target, ResolvedOver, ResolvedSnapshot, Description, lines_at, is_snapshot, resolved_target, IsSnapshotOf, all_over, copied, device_over, has_crowd, is_whole, over_of}
 use Rattle.dm_table.specs.declared.tables.table.Target.TheVariants as targets
 use Rattle.dm_stack.specs.declared.lines.resolved_line.ResolvedTarget.TheVariants as found
 use Rattle.dm_stack.proofs.SoundLines.{lines_there, there}

@@ -1,5 +1,5 @@
 -- The line found for a sector is also found for every other sector that it holds.
-use Rattle.dm_stack.proofs.Prelude.{ℕ, false, List, [], length, Option, Some, None, refl, arith, nat_le, option_map, le-ltb, and-false, Line, ResolvedLine, Description, lines_at, holds, line_of, resolved_line, found_at, IsLineOf, IsSound, mapped}
+use Rattle.dm_stack.proofs.Prelude.{ℕ, false, List, [], length, Some, arith, nat_le, le-ltb, and-false, Line, ResolvedLine, Description, lines_at, holds, line_of, resolved_line, found_at, IsLineOf, IsSound, mapped}
 use Rattle.dm_stack.proofs.checks.LayoutLemmas.{AreInRow}
 use Rattle.dm_stack.proofs.SoundLines.{HoldsSoundly, there, device_sound, lines_there}
 use Rattle.std.specs.Prelude.{◌≡◌, ◌+◌, ◌<◌, ◌≤◌, ◌∷◌}

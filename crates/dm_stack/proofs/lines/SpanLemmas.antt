@@ -1,9 +1,9 @@
 -- The spans of a line with ids are those of the line with names, with ids in place of names.
-use Rattle.dm_stack.proofs.Prelude.{ℕ, zero, suc, Bool, true, false, cond, not, List, [], Some, None, arith, refl, ap, ◌∙◌, drop, length, map, find, is_none, nat_le, slice_get, flat_map, list_any, position_or_len, length-map, flat_map-map, map-map, leb-suc-suc, leb-suc-zero, DevRef, Line, Target, ResolvedLine, Description, device_links, is_same, lower_of, ref_link, resolved_device, is_unknown, is_unknown_ref, resolved_columns, resolved_line, resolved_target, is_missing, line_claims, lower_link, names_missing, target_spans}
+use Rattle.dm_stack.proofs.Prelude.{ℕ, zero, suc, Bool, true, false, cond, not, List, [], Some, None, arith, refl, ap, ◌∙◌, drop, length, map, find, is_none, nat_le, slice_get, flat_map, list_any, position_or_len, length-map, flat_map-map, map-map, leb-suc-suc, leb-suc-zero, DevRef, Line, Target, ResolvedLine, Description, device_links, is_same, lower_of, resolved_device, is_unknown, is_unknown_ref, resolved_columns, resolved_line, resolved_target, is_missing, line_claims, lower_link, names_missing, target_spans}
 use Rattle.dm_table.specs.declared.tables.table.DevRef.TheVariants as refs
 use Rattle.dm_table.specs.declared.tables.table.Target.TheVariants as targets
 use Rattle.dm_table.specs.tables.Span as named
-use Rattle.dm_stack.specs.lines.Span.{line_links, passes_end, spans}
+use Rattle.dm_stack.specs.lines.Span.{by_id, line_links, passes_end, spans}
 use Rattle.dm_stack.specs.declared.lines.span.Span.{Span}
 use Rattle.dm_stack.specs.declared.lines.span.Spans.{Spans}
 use Rattle.dm_stack.specs.Description as by_names
@@ -46,10 +46,6 @@ flat_same f g (x ∷ xs) same = let here = same x in let later = flat_same f g x
 
 -- The spans of a line with ids
 
--- the span with an id in place of the name
-abbrev pub by_id : Description → named.Span → Span
-by_id stack span = record { to = lower_of stack span.to; offset = span.offset; len = span.len; kind = span.kind }
-
 target_are : (stack : Description) (len : ℕ) (target : Target) → target_spans len (resolved_target stack target) ≡ map (by_id stack) (named.target_spans len target)
 target_are stack len (targets.Striped chunk columns) =
     let count : length (resolved_columns stack columns) ≡ length columns = length-map columns _ in
@@ -86,14 +82,9 @@ unknown_is stack line =
 pub past_is : (stack : Description) (line : Line) → passes_end stack (resolved_line stack line) ≡ soundness.passes_end stack line
 past_is stack line = any_span _ stack line
 
-link_is : (stack : Description) (to : DevRef) → lower_link (lower_of stack to) ≡ ref_link stack to
-link_is stack (refs.Device name) = refl
-link_is stack (refs.Disk name) = refl
-
 links_are : (stack : Description) (line : Line) → line_links (resolved_line stack line) ≡ by_names.line_links stack line
 links_are stack line =
     ap (flat_map (λ (span : Span). lower_link span.to)) (spans_are stack line) ∙ flat_map-map (λ (span : Span). lower_link span.to) (by_id stack) (named.spans line)
-    ∙ flat_same (λ (span : named.Span). lower_link (lower_of stack span.to)) (λ span. ref_link stack span.to) (named.spans line) (λ span. link_is stack span.to)
 
 pub claims_are : (stack : Description) (device : ℕ) (line : Line) → line_claims stack device (resolved_line stack line) ≡ claims.line_claims stack device line
 claims_are stack device line = ap (map _) (spans_are stack line) ∙ map-map _ (by_id stack) (named.spans line)

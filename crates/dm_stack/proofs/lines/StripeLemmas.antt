@@ -1,6 +1,6 @@
 -- Stripes: each sector's column exists and has the sector in its share, and the next chunk is in the next column.
-use Rattle.dm_stack.proofs.Prelude.{ℕ, zero, suc, false, List, [], Some, length, get_or, refl, sym, ap, arith, slice_get, AllByRecursion, row_fits, slice_get_read, div-lt_iff_lt-mul, ResolvedColumn, Description, lower_len, AreStripes, column_of, in_column, below_stripes, Lies, StripePosition, IsStripePosition, at_index}
-use Rattle.std.specs.Prelude.{◌≡◌, ◌+◌, ◌-◌, ◌*◌, ◌/◌, ◌%◌, ◌<◌, ◌≤◌, ◌∷◌, ◌==◌}
+use Rattle.dm_stack.proofs.Prelude.{ℕ, false, List, Some, length, get_or, refl, sym, ap, arith, slice_get, row_fits, slice_get_read, div-lt_iff_lt-mul, ResolvedColumn, Description, lower_len, AreStripes, column_of, in_column, below_stripes, Lies, StripePosition, IsStripePosition, at_index}
+use Rattle.std.specs.Prelude.{◌≡◌, ◌+◌, ◌-◌, ◌*◌, ◌/◌, ◌%◌, ◌<◌, ◌≤◌, ◌==◌}
 
 -- the rest of a chunk lies in the column's share of the line
 pub in_column_room : (chunk_size count column_len chunks len distance : ℕ) → 0 < chunk_size → 0 < count → len ≡ count * column_len → column_len ≡ chunks * chunk_size → distance < len

@@ -4,23 +4,13 @@ use Rattle.dm_stack.specs.declared.claims.claim.Claim.{Claim}
 use Rattle.dm_stack.specs.declared.claims.clash.Clash.{Clash}
 use Rattle.dm_stack.specs.declared.id.Lower.{Lower}
 use Rattle.dm_stack.specs.declared.id.Lower.TheVariants.{Device, Disk}
-use Rattle.dm_stack.specs.Description.{Description, lines_at, lower_len, lower_of}
+use Rattle.dm_stack.specs.Description.{Description, lines_at, lower_len}
+use Rattle.dm_stack.specs.lines.Span as by_ids
 use Rattle.std.specs.Prelude.{◌≡◌, ◌↔◌, ◌+◌, ◌≤◌, ◌<◌, ◌∷◌, ◌++◌}
-
--- the end of a span's range; a span without a length ends with the device or disk that it names
-abbrev pub span_end : (whole offset : ℕ) → Option ℕ → ℕ
-span_end whole offset (Some len) = offset + len
-span_end whole offset None = whole
 
 -- the claim that a device makes with one span of a line
 abbrev pub span_claim : Description → (device : ℕ) → Span → Claim
-span_claim stack device span = record {
-  device = device;
-  to = lower_of stack span.to;
-  start = span.offset;
-  end = span_end (lower_len stack (lower_of stack span.to)) span.offset span.len;
-  kind = span.kind;
-}
+span_claim stack device span = by_ids.span_claim stack device (by_ids.by_id stack span)
 
 -- the claims of a line: its range for linear, a range for each column for striped, all of the store and (for reading) all of the origin for a snapshot, all of what it names for an origin
 abbrev pub line_claims : Description → (device : ℕ) → Line → List Claim

@@ -1,5 +1,5 @@
 -- Spans: the devices and disks that a line with ids refers to, and which of their sectors it uses.
-use Rattle.dm_stack.specs.Base.{ℕ, Bool, List, [], Some, None, length, map, nat_le, flat_map, list_any, Use, Own, Reading, Serving}
+use Rattle.dm_stack.specs.Base.{ℕ, Bool, List, [], Option, Some, None, length, map, nat_le, flat_map, list_any, Use, Own, Reading, Serving, Span as NamedSpan}
 use Rattle.dm_stack.specs.declared.claims.claim.Claim.{Claim}
 use Rattle.dm_stack.specs.declared.id.Lower.{Lower}
 use Rattle.dm_stack.specs.declared.id.Lower.TheVariants.{Device, Disk}
@@ -8,10 +8,9 @@ use Rattle.dm_stack.specs.declared.lines.resolved_line.ResolvedLine.{ResolvedLin
 use Rattle.dm_stack.specs.declared.lines.resolved_line.ResolvedTarget.{ResolvedTarget}
 use Rattle.dm_stack.specs.declared.lines.resolved_line.ResolvedTarget.TheVariants as found
 use Rattle.dm_stack.specs.declared.lines.span.Span.{Span}
-use Rattle.dm_stack.specs.Description.{Description, lower_len}
+use Rattle.dm_stack.specs.Description.{Description, lower_len, lower_link, lower_of}
 use Rattle.dm_stack.specs.checks.Soundness.{passes}
-use Rattle.dm_stack.specs.claims.Claims.{span_end}
-use Rattle.std.specs.Prelude.{◌/◌, ◌∷◌}
+use Rattle.std.specs.Prelude.{◌+◌, ◌/◌, ◌∷◌}
 
 -- a column's span, with the column's share of the line's length
 abbrev pub column_span : ℕ → ResolvedColumn → Span
@@ -34,6 +33,10 @@ target_spans len (found.Origin origin) = whole_span origin.to Serving ∷ []
 abbrev pub spans : ResolvedLine → List Span
 spans line = target_spans line.len line.target
 
+-- a span by names, with the id of what it names
+abbrev pub by_id : Description → NamedSpan → Span
+by_id stack span = record { to = lower_of stack span.to; offset = span.offset; len = span.len; kind = span.kind }
+
 -- the stack has no device or disk with this id
 abbrev pub is_missing : Description → Lower → Bool
 is_missing stack (Device id) = nat_le (length stack.devices) id
@@ -43,11 +46,7 @@ is_missing stack (Disk id) = nat_le (length stack.disks) id
 abbrev pub names_missing : Description → ResolvedLine → Bool
 names_missing stack line = list_any (λ span. is_missing stack span.to) (spans line)
 
--- the device's id, or nothing for a disk
-abbrev pub lower_link : Lower → List ℕ
-lower_link (Device id) = id ∷ []
-lower_link (Disk id) = []
-
+-- the devices that a line names
 abbrev pub line_links : ResolvedLine → List ℕ
 line_links line = flat_map (λ span. lower_link span.to) (spans line)
 
@@ -57,6 +56,11 @@ is_past stack span = passes (lower_len stack span.to) span.offset span.len
 
 abbrev pub passes_end : Description → ResolvedLine → Bool
 passes_end stack line = list_any (is_past stack) (spans line)
+
+-- where a span ends: what is named whole is claimed to its end
+abbrev pub span_end : (whole offset : ℕ) → Option ℕ → ℕ
+span_end whole offset (Some len) = offset + len
+span_end whole offset None = whole
 
 -- the claim that a device makes with one span of a line
 abbrev pub span_claim : Description → (device : ℕ) → Span → Claim

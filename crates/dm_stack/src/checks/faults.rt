@@ -2,12 +2,9 @@
 //!
 //! A check that tests elements one by one only says which are bad; the fault is built here.
 
-ghost use Rattle.dm_stack.specs.Base.{ℕ, Bool, IfErr, IfOk, None, FnReturns, FnReturnsAt, result_err, Source, Place, Line, IsMemoryFault, faults_by, first_or};
+ghost use Rattle.dm_stack.specs.Prelude.{ℕ, Bool, IfErr, IfOk, None, FnReturns, FnReturnsAt, result_err, Source, Place, Line, IsMemoryFault, faults_by, first_or, device_faults, ResolvedLine, resolved_line};
 ghost use Rattle.std.specs.Prelude.{◌≡◌};
 ghost use denote.Ref.{Bor};
-ghost use Rattle.dm_stack.specs.checks.Soundness.{device_faults};
-ghost use Rattle.dm_stack.specs.declared.lines.resolved_line.ResolvedLine.{ResolvedLine};
-ghost use Rattle.dm_stack.specs.lines.Below.{resolved_line};
 
 use crate::lines::resolved::Resolved;
 use crate::lines::resolved_line::ResolvedLine;

@@ -3,9 +3,7 @@
 //! A name that occurs twice is found when it is added to an index, without another walk over the names. A name's
 //! number in its index is the id of its device or disk.
 
-ghost use Rattle.dm_stack.specs.Base.{ℕ, IfErr, IfOk, List, None, OnOk, Some, map, Memory, Source, Answers, IsMemoryFault, first_or, unless};
-ghost use Rattle.dm_stack.specs.Description.{described};
-ghost use Rattle.dm_stack.specs.checks.Soundness.{twice, twice_in};
+ghost use Rattle.dm_stack.specs.Prelude.{ℕ, IfErr, IfOk, List, None, OnOk, Some, map, Memory, Source, Answers, IsMemoryFault, first_or, unless, described, twice, twice_in};
 ghost use Rattle.std.specs.Prelude.{◌≡◌, ◌≢◌};
 
 use crate::checks::faults::{Placed, out_of_memory};

@@ -6,8 +6,7 @@
 //! exception store). Nothing else in this crate or in those above it distinguishes kinds of stores to find a
 //! place.
 
-ghost use Rattle.dm_stack.specs.Prelude.{ℕ, false, allocated, is_metadata, metadata, place, place_count};
-ghost use Rattle.dm_table.specs.declared.tables.table.StoreKind.{StoreKind};
+ghost use Rattle.dm_stack.specs.Prelude.{ℕ, false, allocated, is_metadata, metadata, place, place_count, StoreKind};
 ghost use Rattle.std.specs.Prelude.{◌≡◌, ◌↔◌, ◌+◌, ◌*◌, ◌<◌, ◌≤◌, ◌^◌};
 
 use crate::lines::chunk_size::ChunkSize;

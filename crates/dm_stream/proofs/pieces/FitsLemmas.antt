@@ -1,7 +1,6 @@
 -- Units on the disks of a stack are fewer than 2^64.
-use Rattle.dm_stream.proofs.Prelude.{ℕ, arith, Description, IsSound, BlockUnit, CopyOf, FillOf, ReadOf, WriteOf, IsOnDisk, Fits}
+use Rattle.dm_stream.proofs.Prelude.{ℕ, arith, Description, IsSound, BlockUnit, CopyOf, FillOf, ReadOf, WriteOf, IsOnDisk, Fits, lower_small}
 use Rattle.dm_stack.specs.declared.id.Lower.TheVariants as lowers
-use Rattle.dm_stack.proofs.InStack.{lower_small}
 use Rattle.std.specs.Prelude.{◌<◌, ◌^◌}
 
 -- sectors that lie on a disk of a sound stack are fewer than 2^64

@@ -1,6 +1,5 @@
 -- Requests at the front of bytes, one after the other, and what was answered of them.
-use Rattle.dm_stream.proofs.Prelude.{ℕ, zero, suc, List, [], length, get_or, map, take, drop, sym, ◌∙◌, append_assoc, length-append, length-take-le, arith, append-nil, drop-drop, map-append, InputPast, delivery, since, stand_of, AreFirst, AreFirstAnswered, IsAmongFirst, front_requests, line_parts, IsAmong, NumberedRequest, Requests, after_requests, line_requests, numbered, requests_from, requests_of, Front}
-use Rattle.dm_stream.specs.declared.requests.lines.TheConstants.{MOST_LINE_BYTES}
+use Rattle.dm_stream.proofs.Prelude.{ℕ, zero, suc, List, [], length, get_or, map, take, drop, sym, ◌∙◌, append_assoc, length-append, length-take-le, arith, append-nil, drop-drop, map-append, InputPast, delivery, since, stand_of, AreFirst, AreFirstAnswered, IsAmongFirst, front_requests, line_parts, IsAmong, NumberedRequest, Requests, after_requests, line_requests, numbered, requests_from, requests_of, Front, MOST_LINE_BYTES}
 use Rattle.dm_stream.proofs.requests.HandledRequests.{HasHandled, Told, line_first}
 use Rattle.dm_stream.proofs.requests.LineParts.{some_part}
 use Rattle.std.specs.Prelude.{◌≡◌, ◌+◌, ◌<◌, ◌≤◌, ◌∷◌, ◌++◌}

@@ -1,8 +1,6 @@
 -- A line that spells a request is that request, and the requests after it are those of the bytes behind the line.
-use Rattle.dm_stream.proofs.Prelude.{ℕ, List, [], length, take, drop, length-take-le, arith, le-ltb, append-nil, Stand, Open, since, RequestValues, DescribesRequest, ALine, line_parts, next_answer, since-same, grows-same, NumberedRequest, Requests, after_requests, line_requests}
+use Rattle.dm_stream.proofs.Prelude.{ℕ, List, [], length, take, drop, length-take-le, arith, le-ltb, append-nil, Stand, Open, since, RequestValues, DescribesRequest, ALine, line_parts, next_answer, since-same, grows-same, NumberedRequest, Requests, after_requests, line_requests, MOST_LINE_BYTES, MOST_REQUESTS}
 use Rattle.dm_table.proofs.RequestLemmas.{read-said}
-use Rattle.dm_stream.specs.declared.requests.lines.TheConstants.{MOST_LINE_BYTES}
-use Rattle.dm_stream.specs.declared.requests.handling.TheConstants.{MOST_REQUESTS}
 use Rattle.dm_stream.proofs.requests.LineParts.{next_held}
 use Rattle.dm_stream.proofs.requests.HandledRequests.{Told, told_turn}
 use Rattle.std.specs.Prelude.{◌≡◌, ◌+◌, ◌<◌, ◌≤◌, ◌∷◌, ◌++◌}

@@ -1,9 +1,6 @@
 -- One turn of the loop over lines: a request is handed on, or the requests end.
-use Rattle.dm_stream.proofs.Prelude.{cond, true, false, Bool, ltb, ℕ, suc, List, [], length, drop, sym, ap, ◌∙◌, refl, append_assoc, add-one, arith, onto_first, ltb-false, append-nil, Clean, InputPast, Stand, delivery, since, stand_of, Answer, ALine, ALong, line_parts, next_answer, rest_answer, HasGrown, MetNothing, since-same, HasMet, IsAmong, NumberedRequest, Requests, after_requests, line_requests, next_requests, requests_from, requests_of, since_more}
+use Rattle.dm_stream.proofs.Prelude.{cond, true, false, Bool, ltb, ℕ, suc, List, [], length, drop, sym, ap, ◌∙◌, refl, append_assoc, add-one, arith, onto_first, ltb-false, append-nil, Clean, InputPast, Stand, delivery, since, stand_of, Answer, ALine, ALong, line_parts, next_answer, rest_answer, HasGrown, MetNothing, since-same, HasMet, IsAmong, NumberedRequest, Requests, after_requests, line_requests, next_requests, requests_from, requests_of, since_more, MOST_LINE_BYTES, Ending, BadRequest, RequestWord, Unended}
 use Rattle.dm_stream.specs.requests.Requests.{ends as only_ends}
-use Rattle.dm_stream.specs.declared.requests.lines.TheConstants.{MOST_LINE_BYTES}
-use Rattle.dm_stream.specs.declared.runs.ending.Ending as ending
-use Rattle.dm_stream.specs.declared.runs.ending.RequestWord as word
 use Rattle.dm_stream.proofs.requests.LineParts.{some_part, next_line}
 use Rattle.std.specs.Prelude.{◌≡◌, ◌≤◌, ◌==◌, ◌+◌, ◌∷◌, ◌++◌}
 
@@ -128,7 +125,7 @@ after_waiting {AreAnswered = AreAnswered} {h0 = h0} {h1 = h1} {h2 = h2} {s0 = s0
 }
 
 -- if what comes next ends the requests, those that were answered are all requests
-pub ended : {H S : Type 0} (AreAnswered : H → S → List NumberedRequest → H → S → Type 0) (last : InputPast) {first mid : InputPast} {h0 h1 h2 : H} {s0 s1 : S} {held : List ℕ} {n : ℕ} (answer : Answer) (e : ending.Ending)
+pub ended : {H S : Type 0} (AreAnswered : H → S → List NumberedRequest → H → S → Type 0) (last : InputPast) {first mid : InputPast} {h0 h1 h2 : H} {s0 s1 : S} {held : List ℕ} {n : ℕ} (answer : Answer) (e : Ending)
     → ((a b c : H) (s t u : S) (us vs : List NumberedRequest) → AreAnswered a s us b t → AreAnswered b t vs c u → AreAnswered a s (us ++ vs) c u) → HasHandled AreAnswered first mid h0 h1 s0 s1 held n → AreAnswered h1 s1 [] h2 s1
     → HasGrown mid.handed last.handed → answer ≡ next_answer (stand_of mid last) (line_parts (held ++ since mid.handed last.handed))
     → ((rest : Requests) → next_requests n answer rest ≡ only_ends e) → AreAnswered h0 s0 (requests_of (delivery first last)).all h2 s1
@@ -138,8 +135,8 @@ ended AreAnswered last {first = first} {mid = mid} {h0 = h0} {h2 = h2} {s0 = s0}
     rw (a.1, is a.0, append-nil turned.done) turned.answered
 
 -- if neither an end nor a fault was met, a bad line may have any word
-pub bad_met : (old new : InputPast) (number : ℕ) (w : word.RequestWord) → MetNothing old new → HasMet (ending.TheVariants.BadRequest number w) old new
-bad_met old new number word.TheVariants.Unended met = omega (arith, met.0)
+pub bad_met : (old new : InputPast) (number : ℕ) (w : RequestWord) → MetNothing old new → HasMet (BadRequest number w) old new
+bad_met old new number Unended met = omega (arith, met.0)
 bad_met old new number w met = met
 
 -- if the next line is a request, those that were handed on and this one are a first part of all requests

@@ -1,6 +1,5 @@
 -- Where the parts between newlines end.
-use Rattle.dm_stream.proofs.Prelude.{ℕ, zero, suc, cond, Bool, true, false, List, [], length, get_or, take, drop, refl, sym, ap, ◌∙◌, arith, length-take, take-append-drop, onto_first, slice_split-cons_yes, slice_split-cons_no, le-ltb, false_from_ne_true, drop-drop, take-add, Stand, line_parts, next_answer, ALine}
-use Rattle.dm_stream.specs.declared.requests.lines.TheConstants.{MOST_LINE_BYTES}
+use Rattle.dm_stream.proofs.Prelude.{ℕ, zero, suc, cond, Bool, true, false, List, [], length, get_or, take, drop, refl, sym, ap, ◌∙◌, arith, length-take, take-append-drop, onto_first, slice_split-cons_yes, slice_split-cons_no, le-ltb, false_from_ne_true, drop-drop, take-add, Stand, line_parts, next_answer, ALine, MOST_LINE_BYTES}
 use Rattle.std.specs.Prelude.{◌≡◌, ◌+◌, ◌<◌, ◌≤◌, ◌++◌, ◌==◌, ◌∷◌}
 
 abbrev pub is_newline : ℕ → Bool

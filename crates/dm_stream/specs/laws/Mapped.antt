@@ -1,11 +1,6 @@
 -- Laws of a request mapper as a handler: what it did with some requests and then with later ones is what it did with all of them.
-use Rattle.dm_stream.specs.Base.{ℕ, List, [], Option, Some, sym, ap, ◌∙◌, append_assoc, since, since_more, Description, MapperView, State, since-same, NotMapped}
-use Rattle.dm_stream.specs.runs.Mapped.{HasAnswered, HasStopped}
-use Rattle.dm_stream.specs.runs.Outcome.{Outcome, after_text, outcome_from}
-use Rattle.dm_stream.specs.requests.Requests.{NumberedRequest}
-use Rattle.dm_stream.specs.declared.runs.ending.Ending as ending
+use Rattle.dm_stream.specs.Prelude.{ℕ, List, [], Option, Some, sym, ap, ◌∙◌, append_assoc, since, since_more, Description, MapperView, State, since-same, NotMapped, Ending, BadRequest, Unknown, HasAnswered, HasStopped, Outcome, after_text, outcome_from, NumberedRequest}
 use Rattle.dm_stream.specs.declared.runs.ending.NotMapped.TheVariants as causes
-use Rattle.dm_stream.specs.declared.runs.ending.RequestWord as word
 use Rattle.std.specs.Prelude.{◌≡◌, ◌∷◌, ◌++◌}
 
 pub answered_none : (stack : Description) (state : State) (w : List ℕ) → HasAnswered stack state state [] w w
@@ -20,7 +15,7 @@ texts_more w0 w1 w2 o e f =
     ∙ ap (λ (text : List ℕ). after_text text o) (sym (since_more w0 w1 w2 e f))
 
 -- the outcome of requests whose first ones were answered: what was written for these, and then the outcome of the others
-first_answered : (stack : Description) (a b : State) (us vs rest : List NumberedRequest) (e : Option ending.Ending) (w0 w1 : List ℕ) → HasAnswered stack a b us w0 w1
+first_answered : (stack : Description) (a b : State) (us vs rest : List NumberedRequest) (e : Option Ending) (w0 w1 : List ℕ) → HasAnswered stack a b us w0 w1
     → outcome_from stack a ((us ++ vs) ++ rest) e ≡ after_text (since w0 w1) (outcome_from stack b (vs ++ rest) e)
 first_answered stack a b us vs rest e w0 w1 first =
     ap (λ (requests : List NumberedRequest). outcome_from stack a requests e) (append_assoc us vs rest) ∙ first.told (vs ++ rest) e
@@ -39,7 +34,7 @@ stopped_more stack (causes.Unknown number) a b c us vs w0 w1 w2 more again first
   second.0,
   λ rest e.
       first_answered stack a b us vs rest e w0 w1 first ∙ ap (after_text (since w0 w1)) (second.1 rest e)
-      ∙ ap (λ (text : List ℕ). record { output = text; state = c.state; ending = Some (ending.TheVariants.BadRequest number word.TheVariants.Unknown) }) (sym (since_more w0 w1 w2 more again)),
+      ∙ ap (λ (text : List ℕ). record { output = text; state = c.state; ending = Some (BadRequest number Unknown) }) (sym (since_more w0 w1 w2 more again)),
 )
 stopped_more stack causes.Output a b c us vs w0 w1 w2 more again first second = λ rest e.
     let cut = second rest e in (

@@ -1,7 +1,6 @@
 -- What the held bytes alone say about what comes next.
-use Rattle.dm_stream.specs.Base.{ℕ, List, [], length, take, Option, None, Some, Stand}
+use Rattle.dm_stream.specs.Prelude.{ℕ, List, [], length, take, Option, None, Some, Stand, Answer, ALine, AnEnd, AnUnended, ALong, AFault, next_answer, line_parts}
 use Rattle.dm_stream.specs.declared.requests.lines.TheConstants.{MOST_LINE_BYTES}
-use Rattle.dm_stream.specs.requests.Lines.{Answer, ALine, AnEnd, AnUnended, ALong, AFault, next_answer, line_parts}
 use Rattle.dm_stream.specs.declared.requests.lines.NextHeld as found
 use Rattle.std.specs.Prelude.{◌≡◌, ◌<◌, ◌≤◌, ◌∷◌}
 

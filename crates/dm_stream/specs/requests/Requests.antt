@@ -1,11 +1,9 @@
 -- The requests that an input delivered, and how they end.
-use Rattle.dm_stream.specs.Base.{ℕ, List, [], Option, None, Some, Result, Ok, Err, nat_lt, Delivery, InputPast, Stand, MetNothing, RequestValues, values_of, request_reading}
+use Rattle.dm_stream.specs.Base.{ℕ, List, [], Option, None, Some, Result, Ok, Err, nat_lt, Delivery, InputPast, Stand, MetNothing, RequestValues, values_of, request_reading, Ending, BadRequest, Done, ReadFault, WriteFault, RequestWord, Form, Length, Long, Many, Number, Unended}
 use Rattle.dm_table.specs.declared.requests.request.Request.{Request}
 use Rattle.dm_table.specs.declared.requests.request.RequestFault.{RequestFault}
 use Rattle.dm_table.specs.declared.requests.request.RequestFault.TheVariants as faults
 use Rattle.dm_stream.specs.requests.Lines.{Answer, ALine, AnEnd, AnUnended, ALong, AFault, Waits, line_parts, next_answer}
-use Rattle.dm_stream.specs.declared.runs.ending.Ending as ending
-use Rattle.dm_stream.specs.declared.runs.ending.RequestWord as word
 use Rattle.dm_stream.specs.declared.requests.handling.TheConstants.{MOST_REQUESTS}
 use Rattle.std.specs.Prelude.{◌≡◌, ◌<◌, ◌≤◌, ◌+◌, ◌∷◌, ◌++◌, if◌then◌else◌}
 
@@ -21,25 +19,25 @@ numbered request = record { number = request.number; values = values_of request 
 -- the requests up to the first bad line, the end or a fault, and how they end; None while that isn't settled
 pub record Requests : Type 0 where
   pub all : List NumberedRequest
-  pub ending : Option ending.Ending
+  pub ending : Option Ending
 
 -- requests, followed by later ones with their ending
 abbrev pub after_requests : List NumberedRequest → Requests → Requests
 after_requests first rest = record { all = first ++ rest.all; ending = rest.ending }
 
 -- no more requests, and this ending
-abbrev pub ends : ending.Ending → Requests
+abbrev pub ends : Ending → Requests
 ends e = record { all = []; ending = Some e }
 
 -- no more requests: the line of this number is bad, for this reason
-abbrev pub is_bad : ℕ → word.RequestWord → Requests
-is_bad number w = ends (ending.TheVariants.BadRequest number w)
+abbrev pub is_bad : ℕ → RequestWord → Requests
+is_bad number w = ends (BadRequest number w)
 
 -- the word that reports a fault of a line
-abbrev pub word_for : RequestFault → word.RequestWord
-word_for faults.Form = word.TheVariants.Form
-word_for faults.Number = word.TheVariants.Number
-word_for faults.Length = word.TheVariants.Length
+abbrev pub word_for : RequestFault → RequestWord
+word_for faults.Form = Form
+word_for faults.Number = Number
+word_for faults.Length = Length
 
 -- the requests from a parsed line on: its request and then `rest`, or an ending at a bad line
 abbrev pub by_reading : ℕ → Result RequestValues RequestFault → Requests → Requests
@@ -49,16 +47,16 @@ by_reading number (Err fault) rest = is_bad number (word_for fault)
 -- the requests from this line on, if `rest` are those of the lines after it
 abbrev pub line_requests : ℕ → List ℕ → Requests → Requests
 line_requests number line rest =
-    if nat_lt MOST_REQUESTS number then is_bad number word.TheVariants.Many
+    if nat_lt MOST_REQUESTS number then is_bad number Many
     else by_reading number (request_reading line) rest
 
 -- the requests from what comes next in an input on
 abbrev pub next_requests : ℕ → Answer → Requests → Requests
 next_requests number (ALine line) rest = line_requests number line rest
-next_requests number AnEnd rest = ends ending.TheVariants.Done
-next_requests number AnUnended rest = is_bad number word.TheVariants.Unended
-next_requests number ALong rest = is_bad number word.TheVariants.Long
-next_requests number AFault rest = ends ending.TheVariants.ReadFault
+next_requests number AnEnd rest = ends Done
+next_requests number AnUnended rest = is_bad number Unended
+next_requests number ALong rest = is_bad number Long
+next_requests number AFault rest = ends ReadFault
 next_requests number Waits rest = record { all = []; ending = None }
 
 -- the requests of an input's parts between newlines, from the line of this number on
@@ -79,9 +77,9 @@ pub record IsAmong (IsFirst : List NumberedRequest → Type 0) (requests : List 
   pub holds : IsFirst first
 
 -- what reading the requests met if they end like this: at a bad line neither an end nor a fault, except the end behind an unterminated line
-abbrev pub HasMet : ending.Ending → (old new : InputPast) → Type 0
-HasMet ending.TheVariants.Done old new = new.faults ≤ old.faults
-HasMet (ending.TheVariants.BadRequest number word.TheVariants.Unended) old new = new.faults ≤ old.faults
-HasMet (ending.TheVariants.BadRequest number w) old new = MetNothing old new
-HasMet ending.TheVariants.ReadFault old new = old.faults < new.faults
-HasMet ending.TheVariants.WriteFault old new = Unit {0}
+abbrev pub HasMet : Ending → (old new : InputPast) → Type 0
+HasMet Done old new = new.faults ≤ old.faults
+HasMet (BadRequest number Unended) old new = new.faults ≤ old.faults
+HasMet (BadRequest number w) old new = MetNothing old new
+HasMet ReadFault old new = old.faults < new.faults
+HasMet WriteFault old new = Unit {0}

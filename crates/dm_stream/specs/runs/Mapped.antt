@@ -1,12 +1,10 @@
 -- What a request mapper answered to the requests that it got, and why it stopped.
-use Rattle.dm_stream.specs.Base.{ℕ, List, Option, None, Some, false, since, IsCutShort, Description, MapperView, State, NotMapped}
+use Rattle.dm_stream.specs.Base.{ℕ, List, Option, None, Some, false, since, IsCutShort, Description, MapperView, State, NotMapped, Ending, BadRequest, Unknown}
 use Rattle.dm_stream.specs.pieces.Pending.{Pending}
 use Rattle.dm_stream.specs.runs.Outcome.{after_text, outcome_from}
 use Rattle.dm_stream.specs.requests.Requests.{NumberedRequest}
 use Rattle.dm_stream.specs.runs.Run.{ending_for, write_faults}
-use Rattle.dm_stream.specs.declared.runs.ending.Ending as ending
 use Rattle.dm_stream.specs.declared.runs.ending.NotMapped.TheVariants as causes
-use Rattle.dm_stream.specs.declared.runs.ending.RequestWord as word
 use Rattle.std.specs.Prelude.{◌≡◌, ◌++◌}
 
 -- the mapper and the join are of this stack and ready for a request: the mapper has not failed, and the join holds no piece
@@ -18,7 +16,7 @@ pub record IsReady (stack : Description) (mapper : MapperView) (held : Pending) 
 
 -- whatever requests follow, the outcome is what was written for these, and then the outcome of the others from the new state
 pub record HasAnswered (stack : Description) (old new : State) (requests : List NumberedRequest) (before after : List ℕ) : Type 0 where
-  pub told : (rest : List NumberedRequest) (e : Option ending.Ending) → outcome_from stack old (requests ++ rest) e ≡ after_text (since before after) (outcome_from stack new rest e)
+  pub told : (rest : List NumberedRequest) (e : Option Ending) → outcome_from stack old (requests ++ rest) e ≡ after_text (since before after) (outcome_from stack new rest e)
 
 -- how many writes failed, given why a request was not mapped
 abbrev pub failed_writes : NotMapped → ℕ
@@ -26,7 +24,7 @@ failed_writes cause = write_faults (ending_for cause)
 
 -- why the mapper stopped at the last of these requests: its device is unknown, and the outcome ends; or a write failed, and the output was cut short
 abbrev pub HasStopped : Description → NotMapped → State → MapperView → List NumberedRequest → (before after : List ℕ) → Type 0
-HasStopped stack (causes.Unknown number) old new requests before after = (new.failed ≡ false) × ((rest : List NumberedRequest) (e : Option ending.Ending) → outcome_from stack old (requests ++ rest) e
-    ≡ record { output = since before after; state = new.state; ending = Some (ending.TheVariants.BadRequest number word.TheVariants.Unknown) })
+HasStopped stack (causes.Unknown number) old new requests before after = (new.failed ≡ false) × ((rest : List NumberedRequest) (e : Option Ending) → outcome_from stack old (requests ++ rest) e
+    ≡ record { output = since before after; state = new.state; ending = Some (BadRequest number Unknown) })
 HasStopped stack causes.Output old new requests before after =
-    (rest : List NumberedRequest) (e : Option ending.Ending) → IsCutShort (outcome_from stack old (requests ++ rest) e).output (since before after)
+    (rest : List NumberedRequest) (e : Option Ending) → IsCutShort (outcome_from stack old (requests ++ rest) e).output (since before after)

@@ -1,18 +1,16 @@
 -- What a run writes for the requests that were delivered, the state that they leave, and how the run ends.
-use Rattle.dm_stream.specs.Base.{ℕ, Bool, List, [], Option, None, Some, position, Delivery, Description, is_same, request_step, State, Step}
+use Rattle.dm_stream.specs.Base.{ℕ, Bool, List, [], Option, None, Some, position, Delivery, Description, is_same, request_step, State, Step, Ending, BadRequest, Done, ReadFault, WriteFault, Unknown}
 use Rattle.dm_stream.specs.pieces.PieceText.{pieces_text}
 use Rattle.dm_stream.specs.pieces.Pieces.{fewest}
 use Rattle.dm_stream.specs.requests.Requests.{NumberedRequest, requests_of}
 use Rattle.dm_stream.specs.runs.StatusLines.{status_text}
-use Rattle.dm_stream.specs.declared.runs.ending.Ending as ending
-use Rattle.dm_stream.specs.declared.runs.ending.RequestWord as word
 use Rattle.std.specs.Prelude.{◌∷◌, ◌++◌, if◌then◌else◌}
 
 -- what is written, the state that is left, and how the run ends; None while that isn't settled
 pub record Outcome : Type 0 where
   pub output : List ℕ
   pub state : State
-  pub ending : Option ending.Ending
+  pub ending : Option Ending
 
 -- an outcome with a text before its output
 abbrev pub after_text : List ℕ → Outcome → Outcome
@@ -37,10 +35,10 @@ abbrev pub of_device : Description → Option ℕ → NumberedRequest → State 
 of_device stack (Some device) request state later =
     after_text (request_answer stack device request state) (later (step_of stack device request state).state)
 of_device stack None request state later =
-    record { output = []; state = state; ending = Some (ending.TheVariants.BadRequest request.number word.TheVariants.Unknown) }
+    record { output = []; state = state; ending = Some (BadRequest request.number Unknown) }
 
 -- the outcome of requests, each answered in the state that the one before it left
-abbrev pub outcome_from : Description → State → List NumberedRequest → Option ending.Ending → Outcome
+abbrev pub outcome_from : Description → State → List NumberedRequest → Option Ending → Outcome
 outcome_from stack state [] e = record { output = []; state = state; ending = e }
 outcome_from stack state (request ∷ requests) e =
     of_device stack (device_of stack request.values.device) request state (λ after. outcome_from stack after requests e)
@@ -51,11 +49,11 @@ requests_outcome stack state delivered =
     let requests = requests_of delivered in outcome_from stack state requests.all requests.ending
 
 -- the text that follows the answers: `text` if it is asked for and the requests ended cleanly, or else nothing
-abbrev pub if_done : (asked : Bool) → Option ending.Ending → List ℕ → List ℕ
-if_done asked (Some ending.TheVariants.Done) text = if asked then text else []
-if_done asked (Some (ending.TheVariants.BadRequest number w)) text = []
-if_done asked (Some ending.TheVariants.ReadFault) text = []
-if_done asked (Some ending.TheVariants.WriteFault) text = []
+abbrev pub if_done : (asked : Bool) → Option Ending → List ℕ → List ℕ
+if_done asked (Some Done) text = if asked then text else []
+if_done asked (Some (BadRequest number w)) text = []
+if_done asked (Some ReadFault) text = []
+if_done asked (Some WriteFault) text = []
 if_done asked None text = []
 
 -- the outcome, with the status lines of its state after its output if they are asked for

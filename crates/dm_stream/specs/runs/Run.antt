@@ -1,23 +1,21 @@
 -- What a run did, compared with the outcome of what it was given.
-use Rattle.dm_stream.specs.Base.{ℕ, List, Some, false, InputPast, OutputPast, delivery, written_since, HasWritten, IsClosedAfter, IsReadOn, IsCutShort, NotMapped, MapperView, State, Description}
-use Rattle.dm_stream.specs.declared.runs.ending.Ending as ending
+use Rattle.dm_stream.specs.Base.{ℕ, List, Some, false, InputPast, OutputPast, delivery, written_since, HasWritten, IsClosedAfter, IsReadOn, IsCutShort, NotMapped, MapperView, State, Description, Ending, BadRequest, Done, ReadFault, WriteFault, Unknown}
 use Rattle.dm_stream.specs.declared.runs.ending.NotMapped.TheVariants as causes
-use Rattle.dm_stream.specs.declared.runs.ending.RequestWord as word
 use Rattle.dm_stream.specs.runs.Outcome.{Outcome, requests_outcome}
 use Rattle.dm_stream.specs.requests.Requests.{HasMet}
 use Rattle.std.specs.Prelude.{◌≡◌, ◌≢◌, ◌<◌}
 
 -- how a run ends at a request that was not mapped
-abbrev pub ending_for : NotMapped → ending.Ending
-ending_for (causes.Unknown number) = ending.TheVariants.BadRequest number word.TheVariants.Unknown
-ending_for causes.Output = ending.TheVariants.WriteFault
+abbrev pub ending_for : NotMapped → Ending
+ending_for (causes.Unknown number) = BadRequest number Unknown
+ending_for causes.Output = WriteFault
 
 -- how many writes failed in a run that ended like this
-abbrev pub write_faults : ending.Ending → ℕ
-write_faults ending.TheVariants.Done = 0
-write_faults (ending.TheVariants.BadRequest number w) = 0
-write_faults ending.TheVariants.ReadFault = 0
-write_faults ending.TheVariants.WriteFault = 1
+abbrev pub write_faults : Ending → ℕ
+write_faults Done = 0
+write_faults (BadRequest number w) = 0
+write_faults ReadFault = 0
+write_faults WriteFault = 1
 
 -- the mapper is of this stack and has not failed, so it can map requests
 pub record CanMap (of : Description) (mapper : MapperView) : Type 0 where
@@ -25,29 +23,29 @@ pub record CanMap (of : Description) (mapper : MapperView) : Type 0 where
   pub going : mapper.failed ≡ false
 
 -- how a run that ended with `e` leaves its mapper and its requests
-pub record IsLeft (mapper_old mapper_new : MapperView) (requests_old requests_new : InputPast) (e : ending.Ending) : Type 0 where
+pub record IsLeft (mapper_old mapper_new : MapperView) (requests_old requests_new : InputPast) (e : Ending) : Type 0 where
   -- the mapper is still of its stack, and can map more requests unless the output failed
   pub stack : mapper_new.stack ≡ mapper_old.stack
-  pub going : e ≢ ending.TheVariants.WriteFault → mapper_new.failed ≡ false
+  pub going : e ≢ WriteFault → mapper_new.failed ≡ false
   -- requests are not read after their end or after a fault
   pub reads : IsReadOn requests_old requests_new
   -- a read failed if the run ends with a read fault, and none if it is done. At a bad line no read failed, and the end was met only if the line is unterminated
   pub met : HasMet e requests_old requests_new
 
 -- what was done before the flush: the whole outcome, or only a proper prefix of its output if a write failed
-pub record IsMapped (outcome : Outcome) (text : List ℕ) (left : State) (e : ending.Ending) : Type 0 where
-  pub whole : e ≢ ending.TheVariants.WriteFault → (outcome.output ≡ text) × (outcome.ending ≡ Some e) × (left ≡ outcome.state)
-  pub cut : e ≡ ending.TheVariants.WriteFault → IsCutShort outcome.output text
+pub record IsMapped (outcome : Outcome) (text : List ℕ) (left : State) (e : Ending) : Type 0 where
+  pub whole : e ≢ WriteFault → (outcome.output ≡ text) × (outcome.ending ≡ Some e) × (left ≡ outcome.state)
+  pub cut : e ≡ WriteFault → IsCutShort outcome.output text
 
 -- what answering all delivered requests did, before the flush
-pub record HasMappedAll (stack : Description) (mapper_old mapper_new : MapperView) (requests_old requests_new : InputPast) (output_old output_new : OutputPast) (e : ending.Ending) : Type 0 where
+pub record HasMappedAll (stack : Description) (mapper_old mapper_new : MapperView) (requests_old requests_new : InputPast) (output_old output_new : OutputPast) (e : Ending) : Type 0 where
   pub left : IsLeft mapper_old mapper_new requests_old requests_new e
   pub writes : HasWritten output_old output_new (write_faults e)
   pub mapped : IsMapped (requests_outcome stack mapper_old.state (delivery requests_old requests_new)) (written_since output_old output_new) mapper_new.state e
 
 -- what a run did, with its flush: the output was closed after the outcome's output; unless it failed, the run ends as the outcome does, in the same state
-pub record HasRun (old new : OutputPast) (outcome : Outcome) (left : State) (e : ending.Ending) : Type 0 where
-  pub output : IsClosedAfter old new (e ≡ ending.TheVariants.WriteFault) outcome.output
-  pub ends : e ≢ ending.TheVariants.WriteFault → (outcome.ending ≡ Some e) × (left ≡ outcome.state)
+pub record HasRun (old new : OutputPast) (outcome : Outcome) (left : State) (e : Ending) : Type 0 where
+  pub output : IsClosedAfter old new (e ≡ WriteFault) outcome.output
+  pub ends : e ≢ WriteFault → (outcome.ending ≡ Some e) × (left ≡ outcome.state)
   -- a flush, even one that failed, comes only after all that there is to write, so how the outcome ends is settled
-  pub settled : old.flushes < new.flushes → (last : ending.Ending) × (outcome.ending ≡ Some last)
+  pub settled : old.flushes < new.flushes → (last : Ending) × (outcome.ending ≡ Some last)

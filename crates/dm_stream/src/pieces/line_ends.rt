@@ -6,8 +6,7 @@
 //! This is here for speed alone: RESULTS.md has its gain as *texts kept ready*. It relies on the table that `new`
 //! makes. Change it only if you measure small requests, and large ones over 16 columns, before and after.
 
-ghost use Rattle.dm_stream.specs.Base.{[], decimal, length, IsPut, code};
-ghost use Rattle.dm_stream.specs.pieces.LineEnds.{AreMade, IsLineEnd, line_end};
+ghost use Rattle.dm_stream.specs.Prelude.{[], decimal, length, IsPut, code, AreMade, IsLineEnd, line_end};
 ghost use Rattle.dm_stream.specs.declared.pieces.line_ends.TheConstants.{LENGTHS, LONGEST, END_BYTES};
 ghost use Rattle.std.specs.Prelude.{◌≡◌, ◌+◌, ◌++◌, ◌∷◌, ◌<◌, ◌≤◌};
 

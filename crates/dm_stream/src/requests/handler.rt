@@ -4,9 +4,7 @@
 //! request does and why it stops. Its relations are about lists of requests, so the reader of lines needs to know
 //! nothing about answers.
 
-ghost use Rattle.dm_stream.specs.Base.{List, [], length, OnOk, IfErr, IfOk, InputPast, after_read, Description};
-ghost use Rattle.dm_stream.specs.runs.Outcome.{device_of};
-ghost use Rattle.dm_stream.specs.requests.Requests.{NumberedRequest, numbered};
+ghost use Rattle.dm_stream.specs.Prelude.{List, [], length, OnOk, IfErr, IfOk, InputPast, after_read, Description, device_of, NumberedRequest, numbered};
 ghost use Rattle.std.specs.Prelude.{◌≡◌, ◌≤◌, ◌∷◌, ◌++◌};
 
 use crate::requests::front::Front;

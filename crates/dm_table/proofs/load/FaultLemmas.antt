@@ -1,6 +1,6 @@
 -- Lemmas about checks that find faults, and checks that find none.
 use Rattle.dm_table.proofs.Prelude.{length, arith, inl, inr, ℕ, suc, Bool, true, false, cond, List, [], Option, Some, None, Result, Ok, Err, refl, ap, AllByRecursion, cases_Bool, Part, Source, LoadKind, Memory, LoadFault, part_word, Answers, fault_at, first_or, first_fault, faults_from, unless, unended}
-use Rattle.std.specs.Prelude.{◌≡◌, ◌≢◌, ◌≤◌, ◌∷◌, ◌++◌}
+use Rattle.std.specs.Prelude.{◌≡◌, ◌≢◌, ◌≤◌, ◌∷◌}
 
 -- ---- one check followed by others
 

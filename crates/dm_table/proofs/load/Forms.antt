@@ -1,6 +1,5 @@
 -- Forms of texts: a text passes all checks of its form exactly if it describes values, and these are the values that its rows describe.
-use Rattle.dm_table.proofs.Prelude.{ℕ, suc, Bool, true, false, not, List, [], map, Option, Some, None, Result, refl, sym, ap, ◌∙◌, append_assoc, cons_option, AllByRecursion, option_to_list, not-false, not_from_true, append-nil, Part, NotText, Syntax, Field, Name, LoadFault, parts_at, lines_of, rest_of, Answers, first_fault, untexts, unended, row_checks, unless, IsParsed, SayEach, LinesSay, values_from, with_rows}
-use Rattle.std.specs.Global.{Vec}
+use Rattle.dm_table.proofs.Prelude.{ℕ, suc, Bool, true, false, not, List, [], map, Option, Some, None, Result, refl, sym, ap, ◌∙◌, append_assoc, cons_option, AllByRecursion, option_to_list, not-false, not_from_true, append-nil, Part, NotText, Syntax, Field, Name, LoadFault, parts_at, lines_of, rest_of, Answers, first_fault, untexts, unended, row_checks, unless, IsParsed, SayEach, LinesSay, values_from, with_rows, Vec}
 use Rattle.dm_table.proofs.words.FieldLemmas.{last_split, some_parts}
 use Rattle.dm_table.proofs.load.FaultLemmas.{first_fault-none, first_fault-all, faults_from-nil, faults_from-good, unended-nil}
 use Rattle.dm_table.proofs.load.Parsing.{parsed}

@@ -1,6 +1,5 @@
 -- A parser that returns a text's values if its checks find no fault, else the first fault, meets the contract IsParsed.
-use Rattle.dm_table.proofs.Prelude.{List, None, Result, Ok, Err, refl, sym, ap, subst, ◌∙◌, Part, LoadFault, Answers, first_fault, unless, IsParsed}
-use Rattle.std.specs.Global.{Vec}
+use Rattle.dm_table.proofs.Prelude.{List, None, Result, Ok, Err, refl, sym, ap, subst, ◌∙◌, Part, LoadFault, Answers, first_fault, unless, IsParsed, Vec}
 use Rattle.dm_table.proofs.load.FaultLemmas.{unless-ok, unless-err}
 use Rattle.std.specs.Prelude.{◌≡◌}
 

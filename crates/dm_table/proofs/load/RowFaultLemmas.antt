@@ -1,6 +1,5 @@
 -- Reading each row once finds the same first fault as running each check over all rows.
-use Rattle.dm_table.proofs.Prelude.{OnOk, inl, inr, ℕ, suc, Bool, true, not, List, [], length, Option, Some, None, Result, Ok, Err, refl, sym, ap, ◌∙◌, arith, cases_Bool, Part, Syntax, Field, Name, Memory, LoadFault, RowFault, FirstFaults, Answers, fault_at, first_or, first_fault, faults_from, row_checks, unended, unless, Reads, first_failed, row_fault, fault_in, no_faults, either, noted, noted_at, noted_rows, noted_rest, first_noted, said_unless}
-use Rattle.std.specs.Global.{Vec}
+use Rattle.dm_table.proofs.Prelude.{OnOk, inl, inr, ℕ, suc, Bool, true, not, List, [], length, Option, Some, None, Result, Ok, Err, refl, sym, ap, ◌∙◌, arith, cases_Bool, Part, Syntax, Field, Name, Memory, LoadFault, RowFault, FirstFaults, Answers, fault_at, first_or, first_fault, faults_from, row_checks, unended, unless, Reads, first_failed, row_fault, fault_in, no_faults, either, noted, noted_at, noted_rows, noted_rest, first_noted, said_unless, Vec}
 use Rattle.dm_table.specs.declared.load.row_faults.RowFault.TheVariants as rows
 use Rattle.dm_table.proofs.load.FaultLemmas.{Answers-unless, faults_from-text, first_fault-text, unended-text, unless-ok, unless-err, IsOfText}
 use Rattle.dm_table.proofs.Lists.{all_append}

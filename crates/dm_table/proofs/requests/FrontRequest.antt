@@ -1,6 +1,5 @@
 -- Lemmas about a text that begins with a request line.
-use Rattle.dm_table.proofs.Prelude.{ℕ, Bool, List, true, nat_le, length, take, drop, Some, ap, ◌∙◌, append_assoc, length-append, length-take-le, arith, decimal, take-append_seam, drop-append-add, and_parts, leb-true, length-decimal-le, Op, Read, Write, is_device_name, number_of, parts_at, RequestValues, IsFront, request_text, op_text}
-use Rattle.dm_table.specs.declared.requests.request.TheConstants.{MOST_SECTORS}
+use Rattle.dm_table.proofs.Prelude.{ℕ, Bool, List, true, nat_le, length, take, drop, Some, ap, ◌∙◌, append_assoc, length-append, length-take-le, arith, decimal, take-append_seam, drop-append-add, and_parts, leb-true, length-decimal-le, Op, Read, Write, is_device_name, number_of, parts_at, RequestValues, IsFront, request_text, op_text, MOST_SECTORS}
 use Rattle.dm_table.proofs.words.ByteLemmas.{is_shown, is_shown-clear, is_shown-digits, list_all-both, plain-device_name}
 use Rattle.dm_table.proofs.words.FieldLemmas.{IsClearOf, parts_at-first}
 use Rattle.dm_table.proofs.words.NumberLemmas.{Spells-number_of, decimal_digits}

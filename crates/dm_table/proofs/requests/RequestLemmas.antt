@@ -1,6 +1,5 @@
 -- A line that is a request, and its fields: each determines the other, so a line is at most one request.
-use Rattle.dm_table.proofs.Prelude.{ℕ, inl, inr, Bool, true, false, cond, eqb, nat_le, List, [], length, get_or, take, Option, Some, None, refl, sym, ap, ◌∙◌, append_assoc, arith, decimal, nat_eq, Result, Ok, Err, pointwise, join_with_byte, list_all, is_ascii_digit, and_parts, and_from, le-leb, or_cases, and_right, eqb-true, leb-true, false_from_ne_true, nat_tests, length-slice_split, Op, Read, Write, RequestFault, Form, Number, Length, is_device_name, is_device_byte, number_of, fields, RequestValues, AreNumbers, are_two, is_length, DescribesRequest, request_text, row_of, op_text, is_op, has_form, values_in, values_reading, request_reading, if_both, All-list_all}
-use Rattle.dm_table.specs.declared.requests.request.TheConstants.{MOST_SECTORS}
+use Rattle.dm_table.proofs.Prelude.{ℕ, inl, inr, Bool, true, false, cond, eqb, nat_le, List, [], length, get_or, take, Option, Some, None, refl, sym, ap, ◌∙◌, append_assoc, arith, decimal, nat_eq, Result, Ok, Err, pointwise, join_with_byte, list_all, is_ascii_digit, and_parts, and_from, le-leb, or_cases, and_right, eqb-true, leb-true, false_from_ne_true, nat_tests, length-slice_split, Op, Read, Write, RequestFault, Form, Number, Length, is_device_name, is_device_byte, number_of, fields, RequestValues, AreNumbers, are_two, is_length, DescribesRequest, request_text, row_of, op_text, is_op, has_form, values_in, values_reading, request_reading, if_both, All-list_all, MOST_SECTORS}
 use Rattle.dm_table.proofs.words.ByteLemmas.{StandsFirst, stands_first, device_name_parts, digits-clear, plain-device_name}
 use Rattle.dm_table.proofs.words.FieldLemmas.{IsClearOf, parts_at-first, parts_at-clear, join-parts_at}
 use Rattle.dm_table.proofs.words.NumberLemmas.{Spells-number_of, number_of-decimal, decimal_digits, decimal_some}

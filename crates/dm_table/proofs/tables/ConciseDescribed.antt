@@ -1,6 +1,5 @@
 -- A text in the concise form passes all checks exactly if it describes devices, and these are the devices that are read from it.
-use Rattle.dm_table.proofs.Prelude.{inl, inr, ℕ, true, false, not, eqb, List, [], length, take, get_or, None, Result, Ok, Err, refl, sym, ap, ◌∙◌, arith, join_with_byte, AllByRecursion, and_parts, cases_Bool, not-true, eqb-true, append-nil, length-append, map-id, DeviceSpec, Source, LoadFault, parts_at, all_but_last, last_or, Answers, first_fault, first_or, is_printable, not_text, row_checks, unless, IsParsed, SayEach, SaysDevice, DescribesConcise, lacks, entries, without_newline, parts_of, devices_of, is_device, has_values, has_names, concise_checks, device_in, devices_from, parts_reading, read_concise, All-list_all}
-use Rattle.std.specs.Global.{Vec}
+use Rattle.dm_table.proofs.Prelude.{inl, inr, ℕ, true, false, not, eqb, List, [], length, take, get_or, None, Result, Ok, Err, refl, sym, ap, ◌∙◌, arith, join_with_byte, AllByRecursion, and_parts, cases_Bool, not-true, eqb-true, append-nil, length-append, map-id, DeviceSpec, Source, LoadFault, parts_at, all_but_last, last_or, Answers, first_fault, first_or, is_printable, not_text, row_checks, unless, IsParsed, SayEach, SaysDevice, DescribesConcise, lacks, entries, without_newline, parts_of, devices_of, is_device, has_values, has_names, concise_checks, device_in, devices_from, parts_reading, read_concise, All-list_all, Vec}
 use Rattle.dm_table.proofs.words.ByteLemmas.{list_all-weaker}
 use Rattle.dm_table.proofs.load.FaultLemmas.{Answers-refused, unless-passed}
 use Rattle.dm_table.proofs.load.Forms.{Form, IsRead, IsLawful, each_said, none_says, says_none}

@@ -1,6 +1,5 @@
 -- Disk lists are a lawful form.
-use Rattle.dm_table.proofs.Prelude.{ℕ, true, List, [], map, Some, None, Result, refl, sym, ap, ◌∙◌, decimal, nat_le, option_map, option_to_list, join_with_byte, and_from, lt-ltb, Disk, Disks, LoadFault, is_disk_name, number_of, lines_of, fields, Answers, first_fault, is_printable, unless, IsParsed, values_from, with_rows, disk_line, IsDiskOf, DescribesDisks, is_pair, disk_at, disk_in, has_sectors, has_name, disk_checks}
-use Rattle.std.specs.Global.{Vec}
+use Rattle.dm_table.proofs.Prelude.{ℕ, true, List, [], map, Some, None, Result, refl, sym, ap, ◌∙◌, decimal, nat_le, option_map, option_to_list, join_with_byte, and_from, lt-ltb, Disk, Disks, LoadFault, is_disk_name, number_of, lines_of, fields, Answers, first_fault, is_printable, unless, IsParsed, values_from, with_rows, disk_line, IsDiskOf, DescribesDisks, is_pair, disk_at, disk_in, has_sectors, has_name, disk_checks, Vec}
 use Rattle.dm_table.proofs.words.NumberLemmas.{Spells-number_of, number_of-decimal, decimal_digits, decimal_some}
 use Rattle.dm_table.proofs.words.ByteLemmas.{is_shown, list_all-both, disk_name_parts, is_shown-digits, is_shown-printed, digits-clear, plain-disk_name}
 use Rattle.dm_table.proofs.words.FieldLemmas.{parts_at-first, parts_at-clear, join-parts_at}

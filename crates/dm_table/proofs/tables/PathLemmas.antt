@@ -1,6 +1,5 @@
 -- Path lists are a lawful form.
-use Rattle.dm_table.proofs.Prelude.{ℕ, true, List, [], length, map, Some, None, Result, Ok, Err, refl, ap, ◌∙◌, drop, get_or, nat_lt, option_map, option_to_list, and_parts, and_from, lt-ltb, ltb-true, is_utf8-from_IsUtf8, IsUtf8-nil, DiskPath, Paths, LoadFault, fields, parts_at, lines_of, rest_of, Answers, first_fault, first_or, unless, untexts, row_checks, IsParsed, values_from, with_rows, has_name, is_pair, IsPathOf, DescribesPaths, is_path_text, name_and_path, place_in, path_at, path_in, has_place, path_checks, read_paths}
-use Rattle.std.specs.Global.{Vec}
+use Rattle.dm_table.proofs.Prelude.{ℕ, true, List, [], length, map, Some, None, Result, Ok, Err, refl, ap, ◌∙◌, drop, get_or, nat_lt, option_map, option_to_list, and_parts, and_from, lt-ltb, ltb-true, is_utf8-from_IsUtf8, IsUtf8-nil, DiskPath, Paths, LoadFault, fields, parts_at, lines_of, rest_of, Answers, first_fault, first_or, unless, untexts, row_checks, IsParsed, values_from, with_rows, has_name, is_pair, IsPathOf, DescribesPaths, is_path_text, name_and_path, place_in, path_at, path_in, has_place, path_checks, read_paths, Vec}
 use Rattle.dm_table.proofs.words.ByteLemmas.{disk_name_parts, plain-disk_name}
 use Rattle.dm_table.proofs.load.FaultLemmas.{Answers-refused, unless-passed}
 use Rattle.dm_table.proofs.load.Forms.{Form, IsRead, lines_parsed, values_after}

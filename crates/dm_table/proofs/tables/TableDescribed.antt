@@ -1,6 +1,5 @@
 -- Table text is a lawful form, and its lines, joined by names, are its devices.
-use Rattle.dm_table.proofs.Prelude.{ℕ, List, [], None, Result, refl, ap, ◌∙◌, DeviceSpec, Source, LoadFault, lines_of, row_fields, Answers, first_fault, is_printable, unless, IsParsed, values_from, with_rows, NamedLine, SaysLine, DescribesTable, named_lines, is_row, table_checks, named_in, add_said, joined, rows_of}
-use Rattle.std.specs.Global.{Vec}
+use Rattle.dm_table.proofs.Prelude.{ℕ, List, [], None, Result, refl, ap, ◌∙◌, DeviceSpec, Source, LoadFault, lines_of, row_fields, Answers, first_fault, is_printable, unless, IsParsed, values_from, with_rows, NamedLine, SaysLine, DescribesTable, named_lines, is_row, table_checks, named_in, add_said, joined, rows_of, Vec}
 use Rattle.dm_table.specs.tables.TableText.{has_values, has_names}
 use Rattle.dm_table.specs.tables.TableReading.{devices_from}
 use Rattle.dm_table.proofs.words.ByteLemmas.{is_shown-printed}

@@ -94,17 +94,6 @@ named_line name at body line valid h =
     let a = read_parts (λ (line : Line). has_target_names line.target) (line_in at body) line h in
     rw (a.0, valid, a.1)
 
--- a line that was read has the place it was read at
-placed : (at : Place) (o : Option Body) (line : Line) → reading_of (λ (line : Line). has_target_names line.target) (option_map (line_at at) o) ≡ Ok line → line.at ≡ at
-placed at None line h = absurd cc
-placed at (Some body) line h =
-    let a = read_parts (λ (line : Line). has_target_names line.target) (Some (line_at at body)) line h in
-    let is : line_at at body ≡ line = cc in
-    rw (← is)
-
-pub line_place : (at : Place) (body : List (List ℕ)) (line : Line) → body_reading at body ≡ Ok line → line.at ≡ at
-line_place at body line h = placed at (body_in body) line h
-
 named_by : (name : List ℕ) (o : Option Line) (named : NamedLine) → reading_of has_line_names (option_map (λ line. record { name = name; line = line }) o) ≡ Ok named → named.name ≡ name
 named_by name None named h = absurd cc
 named_by name (Some line) named h =

@@ -1,7 +1,7 @@
 -- Adding the lines of table text one after the other gives the devices of all lines.
 use Rattle.dm_table.proofs.Prelude.{OnOk, inl, inr, ℕ, zero, suc, true, false, nat_eq, List, [], length, Option, Some, None, Result, Ok, Err, refl, sym, ap, ◌∙◌, append_assoc, arith, pointwise, slice_index_or, slice_set, cons_option, cases_Bool, append-nil, Line, DeviceSpec, Place, is_device_name, RowFault, Reads, fault_in, unless, values_from, with_rows, body_reading, made_of, with_line, NamedLine, named_in, named_reading, alone, join_line, joined, add_line, add_said, table_row_fault, row_reading}
 use Rattle.dm_table.proofs.tables.TableGroups.{same_name, is_same_name, other_name, is_other_name}
-use Rattle.dm_table.proofs.tables.TableFields.{row_found, row_taken, line_name, line_place, named_fault, named_line}
+use Rattle.dm_table.proofs.tables.TableFields.{row_found, row_taken, line_name, named_fault, named_line}
 use Rattle.dm_table.proofs.tables.TargetRows.{read_ok}
 use Rattle.std.specs.Prelude.{◌≡◌, ◌+◌, ◌∷◌, ◌++◌}
 
@@ -46,15 +46,6 @@ add_after ds n d named len last other = absurd (omega arith)
 -- if reading a body fails, making a device from it fails with that fault
 pub device_fault : (name : List ℕ) (at : Place) (body : List (List ℕ)) (lines : List Line) (fault : RowFault) → with_line lines (body_reading at body) ≡ Err fault → made_of alone (named_reading name at body) ≡ Err fault
 device_fault name at body lines fault h = rw (named_fault name at body fault (made_refused _ (body_reading at body) fault h))
-
-alone_is : (name : List ℕ) (at : Place) (line : Line) (made : List Line) → line ∷ [] ≡ made → line.at ≡ at → alone (record { name = name; line = line }) ≡ record { name = name; ro = false; lines = made; at = at }
-alone_is name at line made one place = rw (← one, ← place)
-
-pub device_read : (name : List ℕ) (at : Place) (body : List (List ℕ)) (lines made : List Line) → with_line lines (body_reading at body) ≡ Ok made → lines ≡ [] → is_device_name name ≡ true
-    → made_of alone (named_reading name at body) ≡ Ok (record { name = name; ro = false; lines = made; at = at })
-device_read name at body lines made h none valid =
-    let a = made_parts (λ line. lines ++ line ∷ []) (body_reading at body) made h in
-    ap (made_of alone) (named_line name at body a.0 valid a.1) ∙ ap Ok (alone_is name at a.0 made (sym (ap (λ lines. lines ++ a.0 ∷ []) none) ∙ a.2) (line_place at body a.0 a.1))
 
 -- the device read from a body is added after the others
 pub add_other : (ds : List DeviceSpec) (n : ℕ) (d device : DeviceSpec) (name : List ℕ) (at : Place) (body : List (List ℕ)) → n + 1 ≡ length ds → d ≡ slice_index_or ds n d → pointwise nat_eq name d.name ≡ false

@@ -1,6 +1,6 @@
 -- Lemmas about reading a target from the code's slices, field by field.
 use Rattle.dm_table.proofs.Prelude.{inl, inr, ℕ, Bool, true, false, eqb, List, [], length, take, drop, slice_index_or, Option, Some, None, Result, Ok, Err, refl, sym, ap, ◌∙◌, append_assoc, arith, is_some, option_map, cases_Bool, take_rest, length-map, append-nil, Column, DevRef, Target, Linear, Striped, Line, Place, RowFault, number_of, texts, is_dev_ref, dev_in, if_both, then_in, columns_in, is_count, linear_in, striped_in, arguments_in, Body, has_target_names, line_at, has_column_names, dev_reading, reading_of, columns_reading, fault_before, target_reading, body_reading, made_of, line_of, with_line, with_target}
-use Rattle.std.specs.Prelude.{◌≡◌, ◌≢◌, ◌-◌, ◌<◌, ◌≤◌, ◌&&◌, ◌∷◌, ◌++◌, if◌then◌else◌}
+use Rattle.std.specs.Prelude.{◌≡◌, ◌≢◌, ◌-◌, ◌<◌, ◌≤◌, ◌∷◌, ◌++◌, if◌then◌else◌}
 use denote.Ref.{Bor}
 use Rattle.dm_table.specs.declared.tables.line_body.BodyHead.{BodyHead}
 use Rattle.dm_table.specs.declared.load.row_faults.RowFault.TheVariants.{Field, Name, Memory}

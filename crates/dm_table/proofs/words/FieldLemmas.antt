@@ -1,6 +1,5 @@
 -- Lemmas about cutting a text at a byte, and joining the parts again.
-use Rattle.dm_table.proofs.Prelude.{ℕ, false, eqb, List, [], length, get_or, take, drop, All, Option, Some, None, refl, sym, ap, ◌∙◌, append_assoc, arith, option_to_list, flat_map, join_with_byte, AllByRecursion, Bool, is_some, not, eq-eqb, false_from_ne_true, not-false, not-true, not_from_false, not_from_true, elements, common_steps, take-append-drop, drop_more, take_rest, drop-drop, map_push, map-append, append-nil, list_all_at, list_all-from_AllPass, length-slice_split, slice_split_at, slice_split_none, join_with_byte-slice_split, lacks, texts, parts_at, all_but_last, last_or, lines_of, rest_of}
-use Rattle.memchr.specs.Find.{Nowhere, Passes, is_byte, IsFirstByte}
+use Rattle.dm_table.proofs.Prelude.{ℕ, false, eqb, List, [], length, get_or, take, drop, All, Option, Some, None, refl, sym, ap, ◌∙◌, append_assoc, arith, option_to_list, flat_map, join_with_byte, AllByRecursion, Bool, is_some, not, eq-eqb, false_from_ne_true, not-false, not-true, not_from_false, not_from_true, elements, common_steps, take-append-drop, drop_more, take_rest, drop-drop, map_push, map-append, append-nil, list_all_at, list_all-from_AllPass, length-slice_split, slice_split_at, slice_split_none, join_with_byte-slice_split, lacks, texts, parts_at, all_but_last, last_or, lines_of, rest_of, Nowhere, Passes, is_byte, IsFirstByte}
 use Rattle.std.specs.Prelude.{◌≡◌, ◌+◌, ◌-◌, ◌<◌, ◌≤◌, ◌∷◌, ◌++◌, ◌==◌}
 use denote.Ref.{Bor}
 

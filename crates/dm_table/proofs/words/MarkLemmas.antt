@@ -1,6 +1,5 @@
 -- Lemmas about the marks of a text: those of its parts, and the first of them.
-use Rattle.dm_table.proofs.Prelude.{ℕ, suc, Bool, true, false, not, List, [], length, map, take, drop, Some, None, sym, ap, ◌∙◌, arith, mul_assoc, pow_pos, pow_mono, pos_of_ne-zero, bit_or, prefix_len, not-false, not-true, common_steps, drop-map, drop-drop, take-append-drop, take-map, take_rest, length-map, prefix_len_passes, prefix_len_stops, or_shifted, leading_from_mask_l, mask_l-lt, trailing_mask_l, add-mul-div_left, div-eq_of_lt, mul_comm, pow-succ', marks_of}
-use Rattle.memchr.specs.Find.{IsFirstByte, is_byte}
+use Rattle.dm_table.proofs.Prelude.{ℕ, suc, Bool, true, false, not, List, [], length, map, take, drop, Some, None, sym, ap, ◌∙◌, arith, mul_assoc, pow_pos, pow_mono, pos_of_ne-zero, bit_or, prefix_len, not-false, not-true, common_steps, drop-map, drop-drop, take-append-drop, take-map, take_rest, length-map, prefix_len_passes, prefix_len_stops, or_shifted, leading_from_mask_l, mask_l-lt, trailing_mask_l, add-mul-div_left, div-eq_of_lt, mul_comm, pow-succ', marks_of, IsFirstByte, is_byte}
 use Rattle.std.specs.Prelude.{◌≡◌, ◌≢◌, ◌+◌, ◌-◌, ◌*◌, ◌%◌, ◌^◌, ◌<◌, ◌≤◌, ◌∷◌, ◌++◌, ◌/◌, ◌==◌}
 use lib.Count.{count_trailing_zeros}
 use lib.Lanes.{mask_l}

@@ -1,6 +1,5 @@
 -- The states of the in-memory input and output for tests, and what each of their calls does.
-use Rattle.dm_table.specs.Base.{ℕ, List, [], length, min, Bool, true, false, Result, IsErr, IfOk}
-use Rattle.dm_table.specs.io.DeviceIo.{InputPast, OutputPast, given}
+use Rattle.dm_table.specs.Prelude.{ℕ, List, [], length, min, Bool, true, false, Result, IsErr, IfOk, InputPast, OutputPast, given}
 use Rattle.std.specs.Prelude.{◌≡◌, ◌↔◌, ◌+◌, ◌++◌, ◌<◌}
 
 -- an in-memory input: its history, the bytes still unread, the most bytes per read, and whether reads fail once no bytes are left

@@ -1,6 +1,5 @@
 -- A byte test that implies a property implies it for all bytes of a text; and names are ASCII.
-use Rattle.dm_table.specs.Base.{ℕ, Bool, true, nat_le, not, List, [], length, All, IsTrue, list_all, AllByRecursion, IsAscii}
-use Rattle.std.proofs.Common.{arith}
+use Rattle.dm_table.specs.Base.{ℕ, Bool, true, nat_le, not, List, [], length, All, IsTrue, list_all, AllByRecursion, IsAscii, arith}
 use Rattle.std.proofs.lemmas.Bool.{and_parts}
 use Rattle.std.proofs.lemmas.Bool.Decides.{nat_tests}
 use Rattle.std.proofs.lemmas.List.Elements.{All-from_recursion}

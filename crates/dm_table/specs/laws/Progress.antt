@@ -1,6 +1,5 @@
 -- Laws about the progress of inputs and outputs, chiefly how two steps combine into one.
-use Rattle.dm_table.specs.Base.{ℕ, List, [], length, drop, MutBor, sym, ap, ◌∙◌, refl, append_assoc, append-nil}
-use Rattle.std.proofs.Common.{add-zero}
+use Rattle.dm_table.specs.Base.{ℕ, List, [], length, drop, MutBor, sym, ap, ◌∙◌, refl, append_assoc, append-nil, add-zero}
 use Rattle.std.proofs.Math.Seq.{drop-append_seam}
 use Rattle.dm_table.specs.io.DeviceIo.{InputPast, OutputPast, since}
 use Rattle.dm_table.specs.io.Progress.{HasWritten, HasWrittenTo, IsClosedAfter, IsFinished}

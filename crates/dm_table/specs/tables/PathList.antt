@@ -1,39 +1,66 @@
 -- Path lists: a line DISK PATH for each disk that has an image file.
-use Rattle.dm_table.specs.Base.{ℕ, Bool, true, List, [], length, take, drop, get_or, nat_eq, nat_le, is_some, map, codes, Option, None, Some, Result, Err, is_ascii_digit, ends_with, list_all, is_utf8, digits_value, Paths, LoadFault, RowFault, Syntax}
+use Rattle.dm_table.specs.Base.{ℕ, Bool, true, List, [], length, take, drop, get_or, nat_eq, nat_le, nat_lt, is_some, map, codes, Option, None, Some, Result, Err, option_map, is_ascii_digit, starts_with, list_all, is_utf8, digits_value, Paths, LoadFault, RowFault, Syntax}
 use Rattle.dm_table.specs.declared.tables.disk_path.DiskPath.{DiskPath}
 use Rattle.dm_table.specs.load.LoadFault.{first_fault, unless}
 use Rattle.dm_table.specs.load.Reading.{LinesSay, line_checks, values_from}
 use Rattle.dm_table.specs.tables.ConciseText.{lacks}
+use Rattle.dm_table.specs.tables.Extent.{Extent, whole_file}
 use Rattle.dm_table.specs.tables.DiskList.{has_name, is_pair, pair_in}
 use Rattle.dm_table.specs.tables.LineReading.{reading_of}
 use Rattle.dm_table.specs.words.Bytes.{code}
-use Rattle.dm_table.specs.words.Fields.{fields, last_or, lines_of, parts_at}
+use Rattle.dm_table.specs.words.Fields.{last_or, lines_of, parts_at}
 use Rattle.dm_table.specs.words.Name.{is_disk_name}
-use Rattle.std.specs.Prelude.{◌≡◌, ◌+◌, ◌-◌, ◌/◌, ◌%◌, ◌<◌, ◌==◌, ◌&&◌, ◌∷◌, ◌++◌, if◌then◌else◌}
+use Rattle.std.specs.Prelude.{◌≡◌, ◌+◌, ◌-◌, ◌/◌, ◌%◌, ◌<◌, ◌==◌, ◌&&◌, ◌||◌, ◌∷◌, ◌++◌, if◌then◌else◌}
+
+-- A text cut in two
+
+-- what stands before the first byte that is c, and what after it
+abbrev pub cut_at : (c : ℕ) → List ℕ → List (List ℕ)
+cut_at c text = let front = get_or (parts_at c text) 0 [] in front ∷ drop (length front + 1) text ∷ []
 
 -- ---- the file and the offset in a path
 
--- the byte offset that 1 to 18 digits spell
-abbrev pub offset_in : List ℕ → Option ℕ
-offset_in digits =
+-- the bytes that digits count: 1 to 18 digits
+abbrev pub bytes_in : List ℕ → Option ℕ
+bytes_in digits =
     if nat_le 1 (length digits) && (nat_le (length digits) 18 && list_all is_ascii_digit digits) then Some (digits_value 10 digits) else None
 
--- the text after the last = in a path
-abbrev pub after_equals : List ℕ → List ℕ
-after_equals text = last_or [] (parts_at (code "=") text)
+-- their sectors, if these are whole
+abbrev pub whole_sectors : Option ℕ → Option ℕ
+whole_sectors (Some bytes) = if bytes % 512 == 0 then Some (bytes / 512) else None
+whole_sectors None = None
 
--- an image file and the byte offset of a disk in it: `byte` is what the end of the path spells, `front` the path before that number
-abbrev pub place_by : Option ℕ → (front path : List ℕ) → List ℕ × ℕ
-place_by None front path = (path, 0)
-place_by (Some byte) front path = if ends_with nat_eq front (codes "?offset=") then (take (length front - 8) front, byte) else (path, 0)
+-- the sectors that KEY=BYTES gives
+abbrev pub sectors_in : (key text : List ℕ) → Option ℕ
+sectors_in key text = if starts_with nat_eq text key then whole_sectors (bytes_in (drop (length key) text)) else None
 
--- the file and byte offset in a path: FILE?offset=BYTES, or any other path for a file and offset 0
-abbrev pub place_of : List ℕ → List ℕ × ℕ
-place_of path = let digits = after_equals path in place_by (offset_in digits) (take (length path - length digits) path) path
+-- an extent has one sector at least
+abbrev pub extent_at : (start len : Option ℕ) → Option Extent
+extent_at (Some start) (Some len) = if nat_lt 0 len then Some (record { start = start; len = len }) else None
+extent_at start len = None
 
--- the file and the sector at which a disk begins in it, if the file's path is UTF-8 and the offset is a multiple of 512 bytes
-abbrev pub place_in : List ℕ → Option (List ℕ × ℕ)
-place_in path = let place = place_of path in if is_utf8 place.0 && place.1 % 512 == 0 then Some (place.0, place.1 / 512) else None
+-- the extent that offset=BYTES and length=BYTES give
+abbrev pub extent_by : List (List ℕ) → Option Extent
+extent_by (offset ∷ len ∷ []) = extent_at (sectors_in (codes "offset=") offset) (sectors_in (codes "length=") len)
+extent_by texts = None
+
+-- what stands after the last ? of a text
+abbrev pub after_mark : List ℕ → List ℕ
+after_mark text = last_or [] (parts_at (code "?") text)
+
+-- what stands there is about a part of the file, right or wrong
+abbrev pub is_of_part : List ℕ → Bool
+is_of_part keys = starts_with nat_eq keys (codes "offset=") || starts_with nat_eq keys (codes "length=")
+
+-- the path of a file is UTF-8
+abbrev pub extent_of : (file : List ℕ) → Option Extent → Option (List ℕ × Extent)
+extent_of file extent = if is_utf8 file then option_map (λ it. (file, it)) extent else None
+
+-- FILE?offset=BYTES&length=BYTES says a part of a file, and any other path that is not about a part says a whole one
+unfoldable pub place_in : List ℕ → Option (List ℕ × Extent)
+place_in path =
+    let keys = after_mark path in
+    if nat_lt (length keys) (length path) && is_of_part keys then extent_of (take (length path - length keys - 1) path) (extent_by (cut_at (code "&") keys)) else extent_of path (Some whole_file)
 
 -- ---- what the lines of a path list describe
 
@@ -48,7 +75,7 @@ pub record IsPathOf (n : ℕ) (line : List ℕ) (disk : DiskPath) : Type 0 where
   pub text : is_path_text line ≡ true
   pub name : is_disk_name disk.disk ≡ true
   pub some : 0 < length path
-  pub place : place_in path ≡ Some (disk.file, disk.start)
+  pub place : place_in path ≡ Some (disk.file, disk.extent)
   pub at : disk.at ≡ record { part = Paths; number = n }
 
 -- the text says where these disks' images are, one line per disk
@@ -59,11 +86,11 @@ DescribesPaths = LinesSay IsPathOf
 
 -- a line as two fields: before its first space, and after it
 abbrev pub name_and_path : List ℕ → List (List ℕ)
-name_and_path line = let name = get_or (fields line) 0 [] in name ∷ drop (length name + 1) line ∷ []
+name_and_path = cut_at (code " ")
 
 -- a disk's image from its name and its file and sector, as line number n of the path list
-abbrev pub path_at : ℕ → List ℕ → List ℕ × ℕ → DiskPath
-path_at n name place = record { disk = name; file = place.0; start = place.1; at = record { part = Paths; number = n } }
+abbrev pub path_at : ℕ → List ℕ → List ℕ × Extent → DiskPath
+path_at n name place = record { disk = name; file = place.0; extent = place.1; at = record { part = Paths; number = n } }
 
 -- the disk's image that a row describes, as line number n, if its path is valid
 abbrev pub path_in : ℕ → List (List ℕ) → Option DiskPath

@@ -1,8 +1,7 @@
 //! An in-memory input and output for tests, which move a few bytes per call and fail when a test wants them to.
 //! Contracts say exactly what each call does, so that a test over them shows what it claims to.
 //! After the first end or fault, each later call meets it again: keep it so, and keep the contracts exact.
-ghost use Rattle.dm_table.specs.Base.{length, take, drop, true, false, is_err, IsErr, IsTrue, IfOk, vec_len, vec_capacity};
-ghost use Rattle.dm_table.specs.io.DeviceIo.{after_flush, after_read, after_write, fault_of};
+ghost use Rattle.dm_table.specs.Prelude.{length, take, drop, true, false, is_err, IsErr, IsTrue, IfOk, vec_len, vec_capacity, after_flush, after_read, after_write, fault_of};
 ghost use Rattle.dm_table.specs.io.ShortIo.{Supply, fresh_supply, Intake, fresh_intake, HandsOut, TakesIn, PassesOn};
 ghost use Rattle.std.specs.Prelude.{◌≡◌, ◌+◌, ◌<◌, ◌≤◌, ◌++◌, ◌↔◌, ◌||◌, if◌then◌else◌};
 

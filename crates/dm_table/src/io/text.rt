@@ -4,8 +4,7 @@
 //! array of a fixed size is copied whole, past the end of its text: that is the cheapest copy, and the bytes
 //! after a text in a block are never read.
 
-ghost use Rattle.dm_table.specs.Base.{ℕ, List, length};
-ghost use Rattle.dm_table.specs.io.Block.{IsPut};
+ghost use Rattle.dm_table.specs.Prelude.{ℕ, List, length, IsPut};
 ghost use Rattle.std.specs.Prelude.{◌≡◌, ◌+◌, ◌≤◌};
 
 /// How many bytes of a block a text may overwrite, counted from its offset.

@@ -4,11 +4,7 @@
 //! the end; a text with a fault gives no values. A type that lines are read into implements `FromRows`,
 //! and `read_lines` reads a text into values of that type.
 
-ghost use Rattle.dm_table.specs.Base.{ℕ, Bool, List, [], None, Ok, IfOk, OnOk, length, map};
-ghost use Rattle.dm_table.specs.words.Fields.{texts, lines_of, rest_of};
-ghost use Rattle.dm_table.specs.load.LoadFault.{Answers, first_fault, is_printable, row_checks, unless};
-ghost use Rattle.dm_table.specs.load.Reading.{line_checks, with_rows};
-ghost use Rattle.dm_table.specs.load.RowFaults.{Reads, no_faults, noted_rest, noted_rows, row_fault, first_noted};
+ghost use Rattle.dm_table.specs.Prelude.{ℕ, Bool, List, [], None, Ok, IfOk, OnOk, length, map, texts, lines_of, rest_of, Answers, first_fault, is_printable, row_checks, unless, line_checks, with_rows, Reads, no_faults, noted_rest, noted_rows, row_fault, first_noted};
 ghost use Rattle.std.specs.Prelude.{◌≡◌, ◌+◌};
 
 use crate::load::load_fault::LoadFault;

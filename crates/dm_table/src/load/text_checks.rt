@@ -3,9 +3,7 @@
 //! A fault of this check takes precedence over faults of rows, so it runs before the rows are
 //! read.
 
-ghost use Rattle.dm_table.specs.Base.{ℕ, Bool, List, None, IfSome, Memory};
-ghost use Rattle.dm_table.specs.words.Fields.{texts, parts_at};
-ghost use Rattle.dm_table.specs.load.LoadFault.{Answers, unless, first_or, is_printable, not_text, untexts};
+ghost use Rattle.dm_table.specs.Prelude.{ℕ, Bool, List, None, IfSome, Memory, texts, parts_at, Answers, unless, first_or, is_printable, not_text, untexts};
 ghost use Rattle.std.specs.Prelude.{◌≡◌, ◌≢◌};
 
 use crate::load::load_fault::{LoadFault, LoadKind};

@@ -5,8 +5,7 @@
 //! check that runs first is chosen. `concise_device` reads a single device; a new target type belongs in
 //! `line_body`.
 
-ghost use Rattle.dm_table.specs.Prelude.{None, Ok, IfOk, OnOk, option_to_list, Source, texts, Answers, unless, Reads, first_noted, no_faults, noted_rows, IsParsed, DescribesConcise, without_newline, parts_of, concise_checks, fault_of_device, device_in, devices_from, parts_reading};
-ghost use Rattle.dm_table.specs.tables.ConciseText.{entries as entries_of};
+ghost use Rattle.dm_table.specs.Prelude.{None, Ok, IfOk, OnOk, option_to_list, Source, texts, Answers, unless, Reads, first_noted, no_faults, noted_rows, IsParsed, DescribesConcise, without_newline, parts_of, concise_checks, fault_of_device, device_in, devices_from, parts_reading, entries as entries_of};
 ghost use Rattle.std.specs.Prelude.{◌≡◌, ◌++◌};
 
 use crate::load::load_fault::LoadFault;

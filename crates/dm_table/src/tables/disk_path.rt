@@ -1,52 +1,70 @@
 //! An entry of the path list: where a disk's image is.
 
-ghost use Rattle.std.specs.Prelude.{◌≡◌, ◌<◌, ◌^◌};
+ghost use Rattle.dm_table.specs.Prelude.{IfNone, IfSome, whole_file};
+ghost use Rattle.std.specs.Prelude.{◌≡◌, ◌+◌, ◌<◌, ◌≤◌, ◌^◌};
 
 use crate::load::place::Place;
 use crate::reserved::ReservedText;
 use crate::words::disk_name::DiskName;
 use std::marker::Model;
 
-/// Where a disk's image is: a file, the sector of it at which the disk begins, and the entry's line in the path list.
+/// Where a disk lies: in a file, which is all of it or a part; and the place that describes it.
 #[derive(Debug, Drop)]
 pub struct DiskPath {
     pub disk: DiskName,
     pub file: ReservedText,
-    pub start: FirstSector,
+    pub extent: FileExtent,
     pub at: Place,
 }
 
-/// The sector of a file at which a disk begins. A contract sees its number, which is below 2^51.
-#[derive(Debug, Drop)]
-pub struct FirstSector {
-    sector: u64,
+/// Sectors of a file in a row: all of it, or a part. A clause sees the first, which is below 2^51, and their number.
+#[derive(Clone, Copy, Debug, Drop)]
+pub struct FileExtent {
+    start: u64,
+    len: u64,
 }
 
-impl Model for FirstSector {
-    ghost use Rattle.dm_table.specs.Base.{ℕ};
+impl Model for FileExtent {
+    ghost use Rattle.dm_table.specs.tables.Extent.{Extent};
     ghost use Rattle.std.specs.Prelude.{◌<◌, ◌^◌};
 
-    ghost Value = { ℕ };
+    ghost Value = { Extent };
 
-    ghost view = { λ first. first.sector };
+    ghost view = { λ extent. record { start = extent.start; len = extent.len } };
 
-    ghost invariant = { λ first. first.sector < 2 ^ 51 };
+    ghost invariant = { λ extent. extent.start < 2 ^ 51 };
+
+    ghost inverse = { λ extent. record { start = extent.start; len = extent.len } };
 }
 
-impl FirstSector {
-    /// The sector with this number.
-    pub(crate) fn new(sector: u64) -> FirstSector
-        requires { sector < 2 ^ 51 }
-        ensures { result ≡ sector }
+impl FileExtent {
+    /// So many sectors, from one on.
+    pub(crate) fn new(start: u64, len: u64) -> FileExtent
+        requires { start < 2 ^ 51 }
+        ensures { result ≡ record { start = start; len = len } }
     {
-        FirstSector { sector }
+        FileExtent { start, len }
     }
 
-    /// The sector's number.
-    pub fn number(&self) -> u64
-        ensures is { result ≡ self.now }
-        ensures near { result < 2 ^ 51 }
+    /// All of a file.
+    pub(crate) fn whole() -> FileExtent
+        ensures { result ≡ whole_file }
     {
-        self.sector
+        FileExtent::new(0, 0x40_0000_0000_0000)
+    }
+
+    /// Which sector of the file this one of the extent is, if so many from it on are in the extent.
+    pub fn sector(self, sector: u64, count: u64) -> Option<u64>
+        requires near { sector ≤ 2 ^ 50 }
+        requires few { count ≤ 2 ^ 50 }
+        ensures is { IfSome result (λ at. at ≡ self.start + sector) }
+        ensures near { IfSome result (λ at. at < 2 ^ 52) }
+        ensures inside { IfSome result (λ at. sector + count ≤ self.len) }
+        ensures past { IfNone result (self.len < sector + count) }
+    {
+        if self.len < sector + count {
+            return None;
+        }
+        Some(self.start + sector)
     }
 }

@@ -1,10 +1,9 @@
-//! Reads path lists: a line `DISK PATH` for each disk that has an image file.
+//! Lists of paths: a line `DISK PATH` for each disk that has an image.
 //!
-//! A path may contain spaces, and may end with the offset at which the disk begins in its file. Lines are read
-//! as those of a disk list are, except that the text is UTF-8.
+//! A path may have spaces, and may end with the part of its file that the disk is. The lines are read as those of a
+//! disk list are, but their text is UTF-8.
 
-ghost use Rattle.dm_table.specs.Prelude.{[], IfSome, length, option_map, option_to_list, Paths, Answers, IsParsed, Reads, has_name, is_pair, DescribesPaths, read_paths, after_equals, has_place, is_path_text, name_and_path, offset_in, path_checks, path_in, path_reading, place_in, texts};
-ghost use Rattle.dm_table.specs.tables.PathList.{place_of};
+ghost use Rattle.dm_table.specs.Prelude.{[], IfSome, length, option_map, option_to_list, Paths, Answers, IsParsed, Reads, has_name, is_pair, DescribesPaths, read_paths, after_mark, bytes_in, cut_at, extent_by, extent_of, has_place, is_of_part, is_path_text, name_and_path, path_checks, path_in, path_reading, place_in, sectors_in, texts};
 ghost use Rattle.std.specs.Prelude.{◌≡◌, ◌<◌, ◌≤◌, ◌^◌, ◌++◌, ◌∷◌};
 
 use crate::load::load_fault::LoadFault;
@@ -13,24 +12,24 @@ use crate::load::reading::{FromRows, read_rows};
 use crate::load::row_faults::RowFault;
 use crate::load::text_checks::{TextRule, check_pieces};
 use crate::reserved::ReservedText;
-use crate::tables::disk_path::{DiskPath, FirstSector};
+use crate::tables::disk_path::{DiskPath, FileExtent};
 use crate::words::disk_name::{DiskName, is_disk_name};
 use memchr::{memchr, memrchr};
 use std::alloc::{AllocError, Global};
 
-/// The entries of a path list, in order: where the disks' images are.
+/// Where the disks of a list of paths lie, in its order.
 ///
 /// The form is this project's own: a line `DISK PATH` for each disk, with one space between and a newline at
-/// the end. The path is the whole line after that space, and may contain spaces. If it ends with `?offset=` and
-/// 1 to 18 digits, the file is what comes before that, and the digits are the byte offset of the disk in it.
+/// the end. The path is the rest of the line, and may have spaces. Where it ends with `?offset=BYTES&length=BYTES`,
+/// each of 1 to 18 digits, the disk is that part of the file that the path before that names.
 ///
-/// Each check runs over the whole text, and the first that finds any fault reports its first line:
+/// Each check runs over the whole text, and the first that finds anything gives the fault, at its first line:
 /// `NotText` for bytes that are not UTF-8, or a NUL; `Syntax` for a line without a name, a space and a path, or
-/// without a newline; `Field` for an offset that isn't a multiple of 512; `Name` for an invalid disk name.
-/// `Memory`, with number 0, may come at any point if an allocation is refused. It is no fault here if a disk is
-/// named twice, or isn't in any stack.
+/// that no newline ends; `Field` for `offset=` or `length=` after the last `?` in any other form, for a number that
+/// is no multiple of 512, and for a length of 0; `Name` for a name that no disk can have. `Memory`, of number 0,
+/// comes wherever an allocation was refused. That a disk is named twice, or is none of a stack, is no fault here.
 ///
-/// Takes time linear in the length of the text.
+/// The time is linear in the text.
 pub fn parse_paths(alloc: Global, text: &[u8]) -> Result<Vec<DiskPath>, LoadFault>
     // An accepted text describes the entries returned; a refused one gives the first fault of the first check.
     ensures parsed { IsParsed Paths (DescribesPaths text.now) (path_checks text.now) result }
@@ -66,7 +65,7 @@ impl FromRows for DiskPath {
     ghost with_row = { λ disks n row. disks ++ option_to_list (path_in n row) };
 
     fn cut_line<'a>(row: &mut Vec<&'a [u8]>, line: &'a [u8]) -> Result<(), AllocError> {
-        let (name, path) = cut_name(line);
+        let (name, path) = cut_at(b' ', line);
         row.clear();
         row.push(name)?;
         row.push(path)?;
@@ -84,16 +83,16 @@ impl FromRows for DiskPath {
     }
 }
 
-/// Cuts a line into the text before its first space and the text after it.
-fn cut_name(line: &[u8]) -> (&[u8], &[u8])
-    ensures { name_and_path line.now ≡ texts (result.0 ∷ result.1 ∷ []) }
+/// What stands before the first byte of a text that is `at`, and what after it.
+fn cut_at(at: u8, text: &[u8]) -> (&[u8], &[u8])
+    ensures { cut_at at text.now ≡ texts (result.0 ∷ result.1 ∷ []) }
 {
-    match memchr(b' ', line) {
+    match memchr(at, text) {
         Some(end) => {
-            let (name, after) = line.split_at(end);
-            (name, &after[1..])
+            let (front, after) = text.split_at(end);
+            (front, &after[1..])
         }
-        None => (line, &[]),
+        None => (text, &[]),
     }
 }
 
@@ -108,7 +107,7 @@ fn read_path(alloc: Global, row: &[&[u8]], number: u64) -> Result<DiskPath, RowF
     if name.is_empty() || path.is_empty() {
         return Err(RowFault::Syntax);
     }
-    let Some((file, start)) = place_in(*path) else {
+    let Some((file, extent)) = place_in(*path) else {
         return Err(RowFault::Field);
     };
     if !is_disk_name(*name) {
@@ -121,54 +120,92 @@ fn read_path(alloc: Global, row: &[&[u8]], number: u64) -> Result<DiskPath, RowF
     Ok(DiskPath {
         disk: DiskName::of_bytes(alloc, *name)?,
         file: ReservedText::from_string(String::from_str(alloc, file)?),
-        start: FirstSector::new(start),
+        extent,
         at,
     })
 }
 
-/// The file that a path gives, and the sector of it at which the disk begins.
-fn place_in(path: &[u8]) -> Option<(&str, u64)>
-    ensures is { option_map (λ place. (place.0.now, place.1)) result ≡ place_in path.now }
-    ensures near { IfSome result (λ place. place.1 < 2 ^ 51) }
+/// The path of a file, and the sectors of it that a disk has, that a path says.
+fn place_in(path: &[u8]) -> Option<(&str, FileExtent)>
+    ensures { option_map (λ place. (place.0.now, place.1)) result ≡ place_in path.now }
 {
-    let (file, byte) = place_of(path);
+    let keys = after_mark(path);
+    if keys.len() < path.len() && is_of_part(keys) {
+        let file = &path[..path.len() - keys.len() - 1];
+        return extent_of(file, extent_in(keys));
+    }
+    extent_of(path, Some(FileExtent::whole()))
+}
+
+/// A file and an extent of it, if its path is UTF-8.
+fn extent_of(file: &[u8], extent: Option<FileExtent>) -> Option<(&str, FileExtent)>
+    ensures { option_map (λ place. (place.0.now, place.1)) result ≡ extent_of file.now extent }
+{
     let Ok(file) = str::from_utf8(file) else {
         return None;
     };
-    if byte % 512 != 0 {
+    match extent {
+        Some(extent) => Some((file, extent)),
+        None => None,
+    }
+}
+
+/// Whether what stands after a `?` is about a part of the file.
+fn is_of_part(keys: &[u8]) -> bool
+    ensures { result ≡ is_of_part keys.now }
+{
+    keys.starts_with(b"offset=") || keys.starts_with(b"length=")
+}
+
+/// The extent that `offset=BYTES&length=BYTES` says.
+fn extent_in(keys: &[u8]) -> Option<FileExtent>
+    ensures { result ≡ extent_by (cut_at 38 keys.now) }
+{
+    let (offset, len) = cut_at(b'&', keys);
+    let Some(start) = sectors_in(b"offset=", offset) else {
+        return None;
+    };
+    let Some(len) = sectors_in(b"length=", len) else {
+        return None;
+    };
+    if len == 0 {
         return None;
     }
-    Some((file, byte / 512))
+    Some(FileExtent::new(start, len))
 }
 
-/// The file that a path gives, and the byte offset in it at which the disk begins.
-fn place_of(path: &[u8]) -> (&[u8], u64)
-    ensures is { (result.0.now, result.1) ≡ place_of path.now }
-    ensures near { result.1 < 10 ^ 18 }
+/// The sectors that a key gives with its bytes.
+fn sectors_in(key: &[u8], text: &[u8]) -> Option<u64>
+    ensures is { result ≡ sectors_in key.now text.now }
+    ensures near { IfSome result (λ sectors. sectors < 2 ^ 51) }
 {
-    let digits = after_equals(path);
-    let front = &path[..path.len() - digits.len()];
-    match offset_in(digits) {
-        Some(byte) if front.ends_with(b"?offset=") => (&front[..front.len() - 8], byte),
-        _ => (path, 0),
+    let Some(digits) = text.strip_prefix(key) else {
+        return None;
+    };
+    let Some(bytes) = bytes_in(digits) else {
+        return None;
+    };
+    if bytes % 512 != 0 {
+        return None;
     }
+    Some(bytes / 512)
 }
 
-/// The text after the last `=`, or all of it if it has none.
-fn after_equals(text: &[u8]) -> &[u8]
-    ensures is { result.now ≡ after_equals text.now }
+/// What stands after the last `?`.
+fn after_mark(text: &[u8]) -> &[u8]
+    ensures is { result.now ≡ after_mark text.now }
     ensures short { length result.now ≤ length text.now }
 {
-    match memrchr(b'=', text) {
+    match memrchr(b'?', text) {
         Some(last) => &text[last + 1..],
         None => text,
     }
 }
 
 /// The byte offset that 1 to 18 digits spell.
-fn offset_in(digits: &[u8]) -> Option<u64>
-    ensures is { result ≡ offset_in digits.now }
-    ensures near { IfSome result (λ offset. offset < 10 ^ 18) }
+fn bytes_in(digits: &[u8]) -> Option<u64>
+    ensures is { result ≡ bytes_in digits.now }
+    ensures near { IfSome result (λ bytes. bytes < 10 ^ 18) }
 {
     if digits.is_empty() || digits.len() > 18 {
         return None;

@@ -1,8 +1,6 @@
 -- Laws of a player of requests as a handler: what it did with some requests and then with later ones is what it did with all of them.
-use Rattle.dmremap.specs.Base.{ℕ, List, [], map, sym, ap, subst, ◌∙◌, append_assoc, append-nil, map-append, since, since_more, Description, since-same, State, NumberedRequest, Asked, Exit}
-use Rattle.dm_stream.specs.declared.runs.ending.Ending.TheVariants as endings
+use Rattle.dmremap.specs.Prelude.{ℕ, List, [], map, sym, ap, subst, ◌∙◌, append_assoc, append-nil, map-append, since, since_more, Description, since-same, State, NumberedRequest, Asked, Exit, WriteFault, AreAnswered, HasPlayed, HasStopped, IsCutReplay, StopsAt, asked_of}
 use Rattle.dmremap.specs.declared.exit.Exit.TheVariants as exits
-use Rattle.dmremap.specs.ReplayOutcome.{AreAnswered, HasPlayed, HasStopped, IsCutReplay, StopsAt, asked_of}
 use Rattle.std.specs.Prelude.{◌≡◌, ◌∷◌, ◌++◌}
 
 pub played_none : (stack : Description) (start : State) (asked : List Asked) (w : List ℕ) → HasPlayed stack start asked asked [] w w
@@ -68,5 +66,5 @@ pub stopped_more : (stack : Description) (start : State) (exit : Exit) (a b : Li
     → HasPlayed stack start a b us w0 w1 → HasStopped stack start exit b vs (since w1 w2) → HasStopped stack start exit a (us ++ vs) (since w0 w2)
 stopped_more stack start (exits.NotTop number) a b us vs w0 w1 w2 more again first second = stops_more _ stack start a b us vs w0 w1 w2 more again first second
 stopped_more stack start exits.Memory a b us vs w0 w1 w2 more again first second = stops_more _ stack start a b us vs w0 w1 w2 more again first second
-stopped_more stack start (exits.Ended endings.WriteFault) a b us vs w0 w1 w2 more again first second = cut_more stack start a b us vs w0 w1 w2 more again first second
+stopped_more stack start (exits.Ended WriteFault) a b us vs w0 w1 w2 more again first second = cut_more stack start a b us vs w0 w1 w2 more again first second
 stopped_more stack start exit a b us vs w0 w1 w2 more again first second = absurd second

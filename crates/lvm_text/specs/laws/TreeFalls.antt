@@ -1,11 +1,6 @@
 -- An inner section has fewer values than the section around it, so that recursion over sections ends.
-use Rattle.lvm_text.specs.Base.{ℕ, max, List, []}
-use Rattle.std.proofs.Common.{arith}
-use Rattle.lvm_text.specs.Tree.{Values, size_of}
-use Rattle.lvm_text.specs.View.{values_of, put}
-use Rattle.lvm_text.specs.declared.tree.Value.{Value}
+use Rattle.lvm_text.specs.Prelude.{ℕ, max, List, [], arith, Values, size_of, values_of, put, Value, Entry}
 use Rattle.lvm_text.specs.declared.tree.Value.TheVariants as variants
-use Rattle.lvm_text.specs.declared.tree.Entry.{Entry}
 use Rattle.lvm_text.specs.declared.tree.Section.TheDeep.{deep-Entry}
 use Rattle.std.specs.Prelude.{◌≤◌, ◌∷◌}
 use denote.Param.Weighed.{most}

@@ -1,5 +1,5 @@
 -- Lemmas about the maps of all physical volumes, and the ranges that are claimed.
-use Rattle.lvm_volume.proofs.Prelude.{ℕ, Bool, true, false, List, [], Option, Some, None, length, get_or, set, drop, Result, Ok, Err, refl, sym, ◌∙◌, subst, arith, inl, inr, IfOk, list_any, nat_cmp, BTreeMap, get, nat_tests, length-set, length-append, eqb-true, eqb-false, cases_lt, get_or-set_same, get_or-set_other, get_or_append_left, get_or-append_seam, drop_more, none-some, Claim, meets, segment_faults, used_after, Physical, Segment, Volume, Holds, HasRanges, ranges_of, reaches, LoadFault, first_or}
+use Rattle.lvm_volume.proofs.Prelude.{ℕ, Bool, true, false, List, [], Some, None, length, get_or, set, drop, Result, Ok, Err, refl, sym, ◌∙◌, subst, arith, inl, inr, IfOk, list_any, nat_cmp, BTreeMap, get, nat_tests, length-set, length-append, eqb-true, eqb-false, cases_lt, get_or-set_same, get_or-set_other, get_or_append_left, get_or-append_seam, drop_more, none-some, Claim, meets, segment_faults, used_after, Physical, Segment, Volume, Holds, HasRanges, ranges_of, reaches, LoadFault, first_or}
 use Rattle.lvm_volume.specs.checks.Extents.{volume_faults}
 use Rattle.lvm_volume.proofs.fields.Faults.{first_after, first_here}
 use Rattle.std.specs.Prelude.{◌≡◌, ◌⊎◌, ◌+◌, ◌<◌, ◌≤◌, ◌==◌, ◌∷◌, ◌++◌}

@@ -1,8 +1,7 @@
 -- If no check finds a fault, the origin of every snapshot has the role Origin.
-use Rattle.lvm_volume.proofs.Prelude.{ℕ, zero, suc, Bool, true, false, cond, not, List, [], length, map, refl, sym, ap, subst, ◌∙◌, arith, filter, nat_lt, slice_index_or, AllByRecursion, enumerate_from, list_any, eq-eqb, eqb-true, ltb-true, not-false, or_parts, or_right, Record, Role, Segment, SegmentType, Volume, is_unknown, stripes_of, volumes_named, is_bad_snapshot, is_bad_target, is_record, is_store, recorded, records_of, role_at, role_by, role_of, roles_of, snapshot_of, unless_recorded, all_append, all_changed}
-use Rattle.lvm_volume.specs.declared.group.segment.SegmentType.TheVariants.{Snapshot}
+use Rattle.lvm_volume.proofs.Prelude.{ℕ, zero, suc, Bool, true, false, cond, not, List, [], length, map, refl, sym, ap, subst, ◌∙◌, arith, filter, nat_lt, slice_index_or, AllByRecursion, enumerate_from, list_any, eq-eqb, eqb-true, ltb-true, not-false, or_parts, or_right, Record, Role, Segment, SegmentType, Volume, is_unknown, stripes_of, volumes_named, is_bad_snapshot, is_bad_target, is_record, is_store, recorded, records_of, role_at, role_by, role_of, roles_of, snapshot_of, unless_recorded, all_append, all_changed, Snapshot}
 use Rattle.lvm_volume.specs.declared.group.roles.Role.TheVariants as roles
-use Rattle.std.specs.Prelude.{◌≡◌, ◌+◌, ◌<◌, ◌==◌, ◌∷◌, ◌++◌}
+use Rattle.std.specs.Prelude.{◌≡◌, ◌+◌, ◌<◌, ◌==◌, ◌∷◌}
 
 -- ---- lists of snapshots
 

@@ -5,7 +5,7 @@ use Rattle.lvm_volume.specs.declared.group.positions.GroupPositions.{GroupPositi
 use Rattle.lvm_volume.specs.fields.Kinds as kinds
 use Rattle.lvm_volume.specs.checks.Extents as extents
 use Rattle.lvm_volume.proofs.checks.OriginLemmas.{all_origins}
-use Rattle.std.specs.Prelude.{◌≡◌, ◌+◌, ◌*◌, ◌/◌, ◌%◌, ◌^◌, ◌<◌, ◌≤◌, ◌==◌, ◌∷◌, ◌++◌, if◌then◌else◌}
+use Rattle.std.specs.Prelude.{◌≡◌, ◌+◌, ◌*◌, ◌/◌, ◌%◌, ◌^◌, ◌<◌, ◌≤◌, ◌==◌, ◌∷◌, if◌then◌else◌}
 
 -- ---- lists of faults that are empty
 

@@ -1,5 +1,5 @@
 -- Lemmas about the first fault that a check finds.
-use Rattle.lvm_volume.proofs.Prelude.{ℕ, suc, List, [], inl, inr, Option, Some, None, Result, Ok, Err, refl, sym, arith, append_assoc, flat_map, range_with_len, result_err, Source, LoadFault, IsMemoryFault, first_or, unless, IsChecked}
+use Rattle.lvm_volume.proofs.Prelude.{ℕ, suc, List, [], inl, inr, Option, Some, None, Result, Ok, Err, refl, sym, arith, append_assoc, flat_map, range_with_len, result_err, Source, LoadFault, IsMemoryFault, first_or, IsChecked}
 use Rattle.std.specs.Prelude.{◌≡◌, ◌+◌, ◌-◌, ◌<◌, ◌∷◌, ◌++◌, ◌⊎◌}
 
 -- the first fault of a list is the first fault of a longer one

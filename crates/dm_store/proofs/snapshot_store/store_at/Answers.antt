@@ -1,6 +1,4 @@
-use Rattle.dm_store.proofs.Prelude.{ap, ◌∙◌, arith, Description, lower_len, IsLineOf, IsSnapshotSound}
-use Rattle.dm_stack.proofs.SameLine.{found_of}
-use Rattle.dm_stack.proofs.SoundLines.{device_some}
+use Rattle.dm_store.proofs.Prelude.{ap, ◌∙◌, arith, Description, lower_len, IsLineOf, IsSnapshotSound, found_of, device_some}
 use Rattle.dm_map.proofs.TableLemmas.{snapshot_room, store_some}
 use Rattle.dm_store.proofs.snapshot_store.store_at.Goals as goal
 use Rattle.std.specs.Prelude.{◌≡◌}

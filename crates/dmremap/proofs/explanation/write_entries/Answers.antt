@@ -1,4 +1,4 @@
-use Rattle.dmremap.proofs.Prelude.{◌∙◌, map, option_map, sym, err_from_is_err_and, fits}
+use Rattle.dmremap.proofs.Prelude.{◌∙◌, option_map, sym, err_from_is_err_and, fits}
 use Rattle.dmremap.proofs.EntryLemmas.{failed_at, skipped_at, written_at}
 use Rattle.dmremap.proofs.explanation.write_entries.Goals as goal
 use Rattle.dmremap.proofs.explanation.write_entries.Goals.{then-fits+in_ok-write_both, else-fits}

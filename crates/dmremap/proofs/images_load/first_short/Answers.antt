@@ -1,5 +1,4 @@
-use Rattle.dmremap.proofs.Prelude.{◌∙◌, ℕ, true, false, List, Result, ap, arith, drop, get_or, length, sym, is_ok, drop_more, DiskPath, len_of}
-use Rattle.lvm_head.specs.declared.disks.ReadFault.{ReadFault}
+use Rattle.dmremap.proofs.Prelude.{◌∙◌, ℕ, true, false, List, Result, ap, arith, drop, get_or, length, sym, is_ok, drop_more, DiskPath, len_of, ReadFault}
 use Rattle.dmremap.proofs.ImagesLemmas.{short_end, short_next}
 use Rattle.dmremap.proofs.images_load.first_short.Goals as goal
 use Rattle.std.specs.Prelude.{◌≡◌, ◌+◌, ◌-◌, ◌<◌, ◌∷◌}

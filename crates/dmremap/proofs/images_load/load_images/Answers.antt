@@ -1,4 +1,4 @@
-use Rattle.dmremap.proofs.Prelude.{ℕ, List, Option, None, Some, ap, slice_get, subst, sym, ◌∙◌, DiskPath, ImagesOpen, disk_message, listed_disks, short_of, Stops}
+use Rattle.dmremap.proofs.Prelude.{List, None, Some, ap, slice_get, subst, sym, ◌∙◌, DiskPath, ImagesOpen, disk_message, listed_disks, short_of, Stops}
 use Rattle.lvm_head.specs.declared.fault.HeadFault.TheVariants.{Ends}
 use Rattle.dmremap.proofs.ImagesLemmas.{head_refused, heads_loaded, heads_unopened, seen_disks, stopped_opens}
 use Rattle.dmremap.proofs.images_load.load_images.Goals as goal

@@ -1,5 +1,4 @@
-use Rattle.dmremap.proofs.Prelude.{inl, inr, refl, delivered_if}
-use Rattle.dm_stream.specs.declared.runs.ending.Ending.TheVariants as endings
+use Rattle.dmremap.proofs.Prelude.{inl, inr, refl, delivered_if, Done}
 use Rattle.dmremap.proofs.BegunLemmas.{begun_before, begun_ending, begun_played, begun_state}
 use Rattle.dmremap.proofs.prepared.after_earlier.Goals as goal
 
@@ -15,7 +14,7 @@ returns-in-Ok-play_if-clause-begun g c = λ start begun.
     let at = rw c.in-Ok.is at begun in
     let done = c.in-Ok-play_if.ensures.played.done in
     let before = delivered_if g.B.Input.past c.args.earlier.now c.play_if.new.earlier in
-    (at.0, at.1, begun_ending c.args.stack.now before at.0 _ endings.Done at.3 done.0, begun_state c.args.stack.now before at.0 _ _ at.3 done.1)
+    (at.0, at.1, begun_ending c.args.stack.now before at.0 _ Done at.3 done.0, begun_state c.args.stack.now before at.0 _ _ at.3 done.1)
 
 pub returns-in-Ok-play_if-clause-asked : goal.returns-in-Ok-play_if-clause-asked
 returns-in-Ok-play_if-clause-asked g c = λ start begun.

@@ -1,5 +1,4 @@
-use Rattle.dmremap.proofs.Prelude.{rules, subst, delivery, written_since, requests_of, IsPlayed, HasDone}
-use Rattle.dmremap.specs.declared.exit.Exit.TheVariants as exits
+use Rattle.dmremap.proofs.Prelude.{rules, subst, delivery, written_since, requests_of, IsPlayed, HasDone, Ended}
 use Rattle.dmremap.proofs.ReplayLemmas.{all_played, part_played, stopped_met}
 use Rattle.dmremap.proofs.replay_run.play_requests.Goals as goal
 
@@ -10,7 +9,7 @@ returns-in-Ok-clause-played g c =
     let new = c.handle_requests-played.new in
     let requests = requests_of (delivery (g.Q.Exchange.past c.args.requests.now) (g.Q.Exchange.past new.requests)) in
     let text = written_since (past c.args.output.now) (past new.handler.output.now) in
-    subst (λ x. HasDone (IsPlayed stack c.args.replay.now.start requests) (past c.args.output.now) (past x) (exits.Ended c.in-Ok.ending)) (search rules)
+    subst (λ x. HasDone (IsPlayed stack c.args.replay.now.start requests) (past c.args.output.now) (past x) (Ended c.in-Ok.ending)) (search rules)
     (record {
       did = all_played stack _ requests text c.in-Ok.ending (rw c.requires.new at c.in-Ok.ensures.answered.0.told) c.in-Ok.ensures.ending c.in-Ok.ensures.no_write_fault;
       writes = search rules;

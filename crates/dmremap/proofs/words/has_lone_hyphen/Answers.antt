@@ -1,6 +1,4 @@
-use Rattle.dmremap.proofs.Prelude.{ℕ, ◌∙◌, List, [], true, false, cond, not, codes, length, get_or, take, drop, add-one, arith, refl, ap, sym, take_while-cons, drop-cons, take-length, Bor, before_first, list_any, bytes_eq, lone_hyphen_in}
-use Rattle.clap.specs.Walk.{texts}
-use Rattle.clap.specs.Words.{Text}
+use Rattle.dmremap.proofs.Prelude.{ℕ, ◌∙◌, List, [], true, false, cond, not, codes, length, get_or, take, drop, add-one, arith, refl, ap, sym, take_while-cons, drop-cons, take-length, Bor, before_first, list_any, bytes_eq, lone_hyphen_in, texts, Text}
 use Rattle.dmremap.proofs.words.has_lone_hyphen.Goals as goal
 use Rattle.std.specs.Prelude.{◌+◌, ◌-◌, ◌<◌, ◌≡◌, ◌∷◌}
 

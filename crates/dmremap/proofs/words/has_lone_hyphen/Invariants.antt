@@ -1,5 +1,4 @@
-use Rattle.dmremap.proofs.Prelude.{drop, lone_hyphen_in}
-use Rattle.clap.specs.Walk.{texts}
+use Rattle.dmremap.proofs.Prelude.{drop, lone_hyphen_in, texts}
 use Rattle.dmremap.proofs.words.has_lone_hyphen.Given as goal
 use Rattle.std.specs.Prelude.{◌≡◌}
 

@@ -1,5 +1,4 @@
-use Rattle.dmremap.proofs.Prelude.{◌∙◌, sym}
-use Rattle.clap.specs.Walk.{texts}
+use Rattle.dmremap.proofs.Prelude.{◌∙◌, sym, texts}
 use Rattle.dmremap.proofs.CommandLine.{refused_for}
 use Rattle.dmremap.proofs.words.read_command.Goals as goal
 

@@ -1,5 +1,4 @@
-use Rattle.dmremap.proofs.Prelude.{Option, ap, option_map, Bor}
-use Rattle.clap.specs.Words.{Text, found_of, rows_of}
+use Rattle.dmremap.proofs.Prelude.{Option, ap, option_map, Bor, Text, found_of, rows_of}
 use Rattle.dmremap.proofs.ReadLemmas.{job_read}
 use Rattle.dmremap.proofs.words.read_job.Goals as goal
 

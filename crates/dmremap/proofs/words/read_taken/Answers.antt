@@ -1,6 +1,4 @@
-use Rattle.dmremap.proofs.Prelude.{rules, err_from_is_err_and}
-use Rattle.clap.specs.Walk.{texts}
-use Rattle.clap.specs.Words.{app_of}
+use Rattle.dmremap.proofs.Prelude.{rules, err_from_is_err_and, texts, app_of}
 use Rattle.dmremap.proofs.CommandLine.{refused, taken}
 use Rattle.dmremap.proofs.words.read_taken.Goals as goal
 

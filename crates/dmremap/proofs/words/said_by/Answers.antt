@@ -1,5 +1,4 @@
-use Rattle.dmremap.proofs.Prelude.{◌∙◌}
-use Rattle.clap.specs.Words.{found_of, rows_of}
+use Rattle.dmremap.proofs.Prelude.{◌∙◌, found_of, rows_of}
 use Rattle.dmremap.proofs.CommandLine.{said_met}
 use Rattle.dmremap.proofs.words.said_by.Goals as goal
 

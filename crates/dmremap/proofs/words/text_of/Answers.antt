@@ -1,5 +1,4 @@
-use Rattle.dmremap.proofs.Prelude.{◌∙◌}
-use Rattle.clap.specs.Words.{found_of}
+use Rattle.dmremap.proofs.Prelude.{◌∙◌, found_of}
 use Rattle.clap.proofs.WalkLemmas.{first_value-rows}
 use Rattle.dmremap.proofs.words.text_of.Goals as goal
 

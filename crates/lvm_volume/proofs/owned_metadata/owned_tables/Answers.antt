@@ -1,4 +1,4 @@
-use Rattle.lvm_volume.proofs.Prelude.{Err, List, ℕ, map, sym, ap, ◌∙◌, item_view, Keyed, id_in, owned_group, untaken, ids_view, owners_view}
+use Rattle.lvm_volume.proofs.Prelude.{Err, List, map, sym, ap, ◌∙◌, item_view, Keyed, id_in, untaken, ids_view, owners_view}
 use Rattle.lvm_volume.proofs.group.OwnersLemmas.{ids_length}
 use Rattle.lvm_volume.proofs.OwnedLemmas.{ids_counted, said_refused, said_tables}
 use Rattle.lvm_volume.proofs.owned_metadata.owned_tables.Goals as goal

@@ -1,5 +1,4 @@
-use Rattle.dm_map.proofs.Prelude.{false, refl, sym, ap, subst, ◌∙◌, arith, ResolvedTarget, Snapshot, Device, Description, IsLineOf, IsSnapshotSound, IsTargetSound, device_there, StackState, range_mapping, AreAsked, HasRoomFor, IsAtLine, refuses}
-use Rattle.dm_stack.specs.declared.checks.graph.TheConstants.{MOST_DEPTH}
+use Rattle.dm_map.proofs.Prelude.{false, refl, sym, ap, subst, ◌∙◌, arith, ResolvedTarget, Snapshot, Device, Description, IsLineOf, IsSnapshotSound, IsTargetSound, device_there, StackState, range_mapping, AreAsked, IsAtLine, refuses, MOST_DEPTH}
 use Rattle.dm_map.proofs.walk.Bounds.{mapped_line, mapped_target}
 use Rattle.dm_map.proofs.walk.HomeLemmas.{home_mapped, mapped_over}
 use Rattle.dm_map.proofs.walk.Ranges.{range_refused}

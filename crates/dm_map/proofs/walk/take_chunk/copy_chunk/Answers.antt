@@ -1,5 +1,4 @@
-use Rattle.dm_map.proofs.Prelude.{ℕ, true, refl, sym, ap, subst, ◌∙◌, arith, both_ways, leb-true, Lower, place, Stretch, IsFirstHomes, copies, reads_all, keep, IsFirstOf, units_of, StackState, WalkerView, lower_small}
-use Rattle.dm_stack.specs.declared.checks.graph.TheConstants.{MOST_DEPTH}
+use Rattle.dm_map.proofs.Prelude.{ℕ, true, refl, sym, ap, subst, ◌∙◌, arith, both_ways, leb-true, Lower, place, Stretch, IsFirstHomes, copies, reads_all, keep, IsFirstOf, units_of, StackState, WalkerView, lower_small, MOST_DEPTH}
 use Rattle.dm_map.specs.declared.walk.stretch.Ground.TheVariants.{Fails}
 use Rattle.dm_map.proofs.walk.ChunkCopies.{copy_next, copy_of, fails_on, first_seen, reads_on}
 use Rattle.dm_map.proofs.walk.Rows.{added_then, walked_cut}

@@ -1,5 +1,4 @@
-use Rattle.dm_map.proofs.Prelude.{true, store_sector, IsFirstHomes, copies, reads_all, IsFirstOf}
-use Rattle.dm_stack.specs.declared.checks.graph.TheConstants.{MOST_DEPTH}
+use Rattle.dm_map.proofs.Prelude.{true, store_sector, IsFirstHomes, copies, reads_all, IsFirstOf, MOST_DEPTH}
 use Rattle.dm_map.proofs.walk.ChunkCopies.{IsGoingOn}
 use Rattle.dm_map.proofs.walk.take_chunk.copy_chunk.Given as goal
 use Rattle.std.specs.Prelude.{◌≡◌, ◌+◌, ◌-◌, ◌≤◌}

@@ -1,5 +1,4 @@
-use Rattle.dm_map.proofs.Prelude.{AreAdded, reads_all, IsFirstOf, stack_state}
-use Rattle.dm_stack.specs.declared.checks.graph.TheConstants.{MOST_DEPTH}
+use Rattle.dm_map.proofs.Prelude.{AreAdded, reads_all, IsFirstOf, stack_state, MOST_DEPTH}
 use Rattle.dm_map.proofs.walk.take_chunk.first_source.Given as goal
 use Rattle.std.specs.Prelude.{◌≡◌, ◌+◌}
 

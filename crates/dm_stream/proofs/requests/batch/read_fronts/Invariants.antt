@@ -1,7 +1,6 @@
-use Rattle.dm_stream.proofs.Prelude.{Some, length, drop, All, AreFirst, front_requests, device_of}
+use Rattle.dm_stream.proofs.Prelude.{Some, length, drop, All, AreFirst, front_requests, device_of, MOST_REQUESTS}
 use Rattle.arrayvec.specs.ArrayVec.{array_vec_len}
 use Rattle.dm_stream.specs.declared.requests.batch.TheConstants.{MOST_FRONTS}
-use Rattle.dm_stream.specs.declared.requests.handling.TheConstants.{MOST_REQUESTS}
 use Rattle.dm_stream.proofs.requests.batch.read_fronts.Given as goal
 use Rattle.std.specs.Prelude.{◌≡◌, ◌+◌, ◌-◌, ◌≤◌}
 

@@ -1,6 +1,4 @@
-use Rattle.dm_stream.proofs.Prelude.{grows-same, rules, ◌∙◌, refl, [], take, stand_of, grows_more, ALine, AnEnd, AnUnended, ALong, AFault, numbered}
-use Rattle.dm_stream.specs.declared.runs.ending.Ending as ending
-use Rattle.dm_stream.specs.declared.runs.ending.RequestWord as word
+use Rattle.dm_stream.proofs.Prelude.{grows-same, rules, ◌∙◌, refl, [], take, stand_of, grows_more, ALine, AnEnd, AnUnended, ALong, AFault, numbered, BadRequest, Done, ReadFault, Long, Unended}
 use Rattle.dm_stream.proofs.requests.Batches.{after_batch, among_batch}
 use Rattle.dm_stream.proofs.requests.Fronts.{held_next, told_front}
 use Rattle.dm_stream.proofs.requests.HandledRequests.{after_waiting, bad_met, told_none, told_turn, ended, among}
@@ -102,7 +100,7 @@ lines-preserved g c =
 pub returns-in-Err-request_of-clause-answered : goal.returns-in-Err-request_of-clause-answered
 returns-in-Err-request_of-clause-answered g c =
     let turned = after_batch _ c.in-Ok.batch.len _ _ (g.met.H.Handler.answered_then_answered c.args.stack.now) c.lines.invariant.turned c.in-Ok.ensures.answered c.held-held.ensures c.skip.ensures in
-    ended (g.H.Handler.answered c.args.stack.now) (g.H.ReadsFrom.asked c.next_for.new.requests) (ALine c.in-Line.line.now) (ending.TheVariants.BadRequest (c.lines.number + c.in-Ok.batch.count + 1) c.in-Err-request_of.word) (g.met.H.Handler.answered_then_answered c.args.stack.now) turned (c.before_read.ensures.answered c.args.stack.now c.answer_in_batches.new.source) c.in-Line.ensures.reads.grows c.in-Line.ensures.answer c.in-Err-request_of.ensures.bad
+    ended (g.H.Handler.answered c.args.stack.now) (g.H.ReadsFrom.asked c.next_for.new.requests) (ALine c.in-Line.line.now) (BadRequest (c.lines.number + c.in-Ok.batch.count + 1) c.in-Err-request_of.word) (g.met.H.Handler.answered_then_answered c.args.stack.now) turned (c.before_read.ensures.answered c.args.stack.now c.answer_in_batches.new.source) c.in-Line.ensures.reads.grows c.in-Line.ensures.answer c.in-Err-request_of.ensures.bad
 
 pub returns-in-Err-request_of-clause-met : goal.returns-in-Err-request_of-clause-met
 returns-in-Err-request_of-clause-met g c =
@@ -113,22 +111,22 @@ returns-in-Err-request_of-clause-met g c =
 pub returns-in-End-clause-answered : goal.returns-in-End-clause-answered
 returns-in-End-clause-answered g c =
     let turned = after_batch _ c.in-Ok.batch.len _ _ (g.met.H.Handler.answered_then_answered c.args.stack.now) c.lines.invariant.turned c.in-Ok.ensures.answered c.held-held.ensures c.skip.ensures in
-    ended (g.H.Handler.answered c.args.stack.now) (g.H.ReadsFrom.asked c.next_for.new.requests) AnEnd ending.TheVariants.Done (g.met.H.Handler.answered_then_answered c.args.stack.now) turned (c.before_read.ensures.answered c.args.stack.now c.answer_in_batches.new.source) c.in-End.ensures.reads.grows c.in-End.ensures.answer (λ rest. refl)
+    ended (g.H.Handler.answered c.args.stack.now) (g.H.ReadsFrom.asked c.next_for.new.requests) AnEnd Done (g.met.H.Handler.answered_then_answered c.args.stack.now) turned (c.before_read.ensures.answered c.args.stack.now c.answer_in_batches.new.source) c.in-End.ensures.reads.grows c.in-End.ensures.answer (λ rest. refl)
 
 pub returns-in-Unended-clause-answered : goal.returns-in-Unended-clause-answered
 returns-in-Unended-clause-answered g c =
     let turned = after_batch _ c.in-Ok.batch.len _ _ (g.met.H.Handler.answered_then_answered c.args.stack.now) c.lines.invariant.turned c.in-Ok.ensures.answered c.held-held.ensures c.skip.ensures in
-    ended (g.H.Handler.answered c.args.stack.now) (g.H.ReadsFrom.asked c.next_for.new.requests) AnUnended (ending.TheVariants.BadRequest (c.lines.number + c.in-Ok.batch.count + 1) word.TheVariants.Unended) (g.met.H.Handler.answered_then_answered c.args.stack.now) turned (c.before_read.ensures.answered c.args.stack.now c.answer_in_batches.new.source) c.in-Unended.ensures.reads.grows c.in-Unended.ensures.answer (λ rest. refl)
+    ended (g.H.Handler.answered c.args.stack.now) (g.H.ReadsFrom.asked c.next_for.new.requests) AnUnended (BadRequest (c.lines.number + c.in-Ok.batch.count + 1) Unended) (g.met.H.Handler.answered_then_answered c.args.stack.now) turned (c.before_read.ensures.answered c.args.stack.now c.answer_in_batches.new.source) c.in-Unended.ensures.reads.grows c.in-Unended.ensures.answer (λ rest. refl)
 
 pub returns-in-Long-clause-answered : goal.returns-in-Long-clause-answered
 returns-in-Long-clause-answered g c =
     let turned = after_batch _ c.in-Ok.batch.len _ _ (g.met.H.Handler.answered_then_answered c.args.stack.now) c.lines.invariant.turned c.in-Ok.ensures.answered c.held-held.ensures c.skip.ensures in
-    ended (g.H.Handler.answered c.args.stack.now) (g.H.ReadsFrom.asked c.next_for.new.requests) ALong (ending.TheVariants.BadRequest (c.lines.number + c.in-Ok.batch.count + 1) word.TheVariants.Long) (g.met.H.Handler.answered_then_answered c.args.stack.now) turned (c.before_read.ensures.answered c.args.stack.now c.answer_in_batches.new.source) c.in-Long.ensures.reads.grows c.in-Long.ensures.answer (λ rest. refl)
+    ended (g.H.Handler.answered c.args.stack.now) (g.H.ReadsFrom.asked c.next_for.new.requests) ALong (BadRequest (c.lines.number + c.in-Ok.batch.count + 1) Long) (g.met.H.Handler.answered_then_answered c.args.stack.now) turned (c.before_read.ensures.answered c.args.stack.now c.answer_in_batches.new.source) c.in-Long.ensures.reads.grows c.in-Long.ensures.answer (λ rest. refl)
 
 pub returns-in-ReadFault-clause-answered : goal.returns-in-ReadFault-clause-answered
 returns-in-ReadFault-clause-answered g c =
     let turned = after_batch _ c.in-Ok.batch.len _ _ (g.met.H.Handler.answered_then_answered c.args.stack.now) c.lines.invariant.turned c.in-Ok.ensures.answered c.held-held.ensures c.skip.ensures in
-    ended (g.H.Handler.answered c.args.stack.now) (g.H.ReadsFrom.asked c.next_for.new.requests) AFault ending.TheVariants.ReadFault (g.met.H.Handler.answered_then_answered c.args.stack.now) turned (c.before_read.ensures.answered c.args.stack.now c.answer_in_batches.new.source) c.in-ReadFault.ensures.reads.grows c.in-ReadFault.ensures.answer (λ rest. refl)
+    ended (g.H.Handler.answered c.args.stack.now) (g.H.ReadsFrom.asked c.next_for.new.requests) AFault ReadFault (g.met.H.Handler.answered_then_answered c.args.stack.now) turned (c.before_read.ensures.answered c.args.stack.now c.answer_in_batches.new.source) c.in-ReadFault.ensures.reads.grows c.in-ReadFault.ensures.answer (λ rest. refl)
 
 pub returns-in-Err-handle_named-clause-stopped : goal.returns-in-Err-handle_named-clause-stopped
 returns-in-Err-handle_named-clause-stopped g c =

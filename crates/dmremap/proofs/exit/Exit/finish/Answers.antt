@@ -1,6 +1,4 @@
-use Rattle.dmremap.proofs.Prelude.{refl, sym, ◌∙◌}
-use Rattle.dm_stream.specs.declared.runs.ending.Ending.TheVariants as endings
-use Rattle.dmremap.specs.declared.exit.Exit.TheVariants as exits
+use Rattle.dmremap.proofs.Prelude.{refl, sym, ◌∙◌, WriteFault, Ended}
 use Rattle.dmremap.proofs.ExitLemmas.{closed_failed, closed_well}
 use Rattle.dmremap.proofs.exit.Exit.finish.Goals as goal
 
@@ -17,7 +15,7 @@ returns-in-Ok g c = (
 
 pub returns-in-Err : goal.returns-in-Err
 returns-in-Err g c = (
-  exits.Ended endings.WriteFault,
+  Ended WriteFault,
   closed_failed g.W.Output.past c.args.self.now c.args.output.now c.close_and_tell.new.output _ c.written.result (sym c.is_refused.ensures ∙ c.if-is_refused.false)
       c.written.ensures.ok c.written.ensures.err c.in-Err.ensures.untouched c.in-Err.ensures.flushed c.in-Err.ensures.bytes c.in-Err.ensures.closed,
   record { is = refl; told = c.in-Err.ensures.told },

@@ -1,5 +1,5 @@
 -- the physical volumes so far, with those that are left, are all of them
-use Rattle.lvm_volume.proofs.Prelude.{map, zip_first, zip_second, zip, iter_rest, all_owned, ids_view, owners_view}
+use Rattle.lvm_volume.proofs.Prelude.{zip_first, zip_second, iter_rest, all_owned, ids_view, owners_view}
 use Rattle.lvm_volume.proofs.group.owners.all_owned.Given as goal
 use Rattle.std.specs.Prelude.{◌≡◌, ◌++◌}
 

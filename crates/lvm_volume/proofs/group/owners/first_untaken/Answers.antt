@@ -1,4 +1,4 @@
-use Rattle.lvm_volume.proofs.Prelude.{List, ℕ, Some, None, map, sym, ap₂, ◌∙◌, arith, drop_more, item_view, disk_fault, owners_view}
+use Rattle.lvm_volume.proofs.Prelude.{Some, None, map, sym, ap₂, ◌∙◌, arith, drop_more, item_view, disk_fault, owners_view}
 use Rattle.lvm_volume.proofs.group.OwnersLemmas.{untaken_end, untaken_next}
 use Rattle.lvm_volume.proofs.group.owners.first_untaken.Goals as goal
 

@@ -1,7 +1,6 @@
 use Rattle.lvm_volume.proofs.Prelude.{List, length, sym, ap, subst, ◌∙◌, Physical, Group, group_with, all_owned, ids_view, owners_view, IsSoundGroup}
 use Rattle.lvm_volume.proofs.group.OwnersLemmas.{ids_length, sound_owned}
 use Rattle.lvm_volume.proofs.group.owners.owned_group.Goals as goal
-use Rattle.std.specs.Prelude.{◌≡◌}
 
 pub invariant_of-result : goal.invariant_of-result
 invariant_of-result c =

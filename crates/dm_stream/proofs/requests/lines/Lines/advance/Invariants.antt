@@ -1,5 +1,4 @@
-use Rattle.dm_stream.proofs.Prelude.{[], length, take, since, line_parts}
-use Rattle.dm_stream.specs.declared.requests.lines.TheConstants.{BUFFER_BYTES}
+use Rattle.dm_stream.proofs.Prelude.{[], length, take, since, line_parts, BUFFER_BYTES}
 use Rattle.dm_stream.proofs.requests.lines.Lines.advance.Given as goal
 use Rattle.std.specs.Prelude.{◌≡◌, ◌-◌, ◌≤◌, ◌++◌, ◌∷◌}
 

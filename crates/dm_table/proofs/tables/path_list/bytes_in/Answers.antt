@@ -1,6 +1,6 @@
 use Rattle.dm_table.proofs.Prelude.{sym, ◌∙◌, arith, length, take, digits_value_short, length-take-le}
 use Rattle.dm_table.proofs.words.NumberLemmas.{next_below, numerals, read_more}
-use Rattle.dm_table.proofs.tables.path_list.offset_in.Goals as goal
+use Rattle.dm_table.proofs.tables.path_list.bytes_in.Goals as goal
 use Rattle.std.specs.Prelude.{◌≤◌}
 
 pub overflow_mul-value : goal.overflow_mul-value
@@ -20,7 +20,7 @@ loop-len-preserved c =
     let digit = sym c.is_ascii_digit.ensures.value ∙ c.if-not-is_ascii_digit.false in
     rw c.from.ensures (read_more c.args.digits.now c.loop-len.len c.loop-len.value c.loop-len.invariant digit c.loop-len-test.true (omega arith))
 
--- the value of at most 18 digits is below 10^18
+-- the value of at most 18 digits
 pub returns-clause-near : goal.returns-clause-near
 returns-clause-near c =
     let read = c.loop-len.invariant in

@@ -1,6 +1,6 @@
 use Rattle.dm_table.proofs.Prelude.{◌∙◌, take_rest}
 use Rattle.dm_table.proofs.tables.PathPlaces.{last_found, last_nowhere}
-use Rattle.dm_table.proofs.tables.path_list.after_equals.Goals as goal
+use Rattle.dm_table.proofs.tables.path_list.after_mark.Goals as goal
 use Rattle.std.specs.Prelude.{◌+◌}
 
 pub returns-in-Some-clause-is : goal.returns-in-Some-clause-is

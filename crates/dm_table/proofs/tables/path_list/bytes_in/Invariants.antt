@@ -1,6 +1,6 @@
--- the value so far is that of the digits read so far
+-- what was read of the digits is their value so far
 use Rattle.dm_table.proofs.Prelude.{length, IsReadTo}
-use Rattle.dm_table.proofs.tables.path_list.offset_in.Given as goal
+use Rattle.dm_table.proofs.tables.path_list.bytes_in.Given as goal
 use Rattle.std.specs.Prelude.{◌-◌}
 
 abbrev pub invariant-loop-len : goal.invariant-loop-len
