@@ -62,7 +62,27 @@ def test_damaged(tally, pile):
     """A newer half of other bytes, whose superblock has a wrong sum."""
     halves = [member(content_of(name, 64), 1, number, (0, 1), 9 - 5 * number) for number, name in enumerate(("new", "old"))]
     pile.hold({"new": patched(halves[0], (4096 + 200, b"\xff")), "old": halves[1]})
-    pile.refuses(tally, "an older half beside it", "md:array", "new may be one with newer data")
+    pile.refuses(tally, "an older half beside it", "md:array", "new may be one with other data")
+
+
+def test_parity(tally, pile):
+    """raid5 with a member whose superblock can't be read: what is computed in its place may be other than what it has, as where writes
+    failed, unless nothing is there. A log of bad blocks with an entry for no sector is damaged."""
+    def put(data, version, **changes):
+        legs = parity_legs(data, 5, 2, 3, 8)
+        pile.hold({"m%d" % role: changes.get("m%d" % role, lambda it: it)(member(
+            leg, 5, role, range(3), 7, layout=2, size=len(leg) // SECTOR, version=version, bad=[(70, 3)] * (not role))) for role, leg in enumerate(legs)})
+    data = content_of("raid5", 2 * 3 * 8)
+    for name, made, version, change in (
+            ("of zeros", data, 2, lambda it: wiped(it, (4096, 4096))), ("whose sum is wrong", data, 2, lambda it: patched(it, (4096 + 200, b"\xff"))),
+            ("of zeros behind the label", disk("a", A, text("vg0", "g", 4, "a", HOME)), 0, lambda it: wiped(it, (-64 * SECTOR, 64 * SECTOR)))):
+        put(made, version, m0=change)
+        pile.refuses(tally, "raid5 with a superblock " + name, "md:array", "it lacks members, and m0 may be one with other data")
+        pile.refuses(tally, "how it could be given, with a superblock " + name, "md:array", LEAVE_OUT)
+    put(data, 2, m0=lambda it: bytes(len(it)))
+    pile.holds(tally, "raid5 beside zeros", "md:array", data)
+    put(data, 2, m0=lambda it: wiped(it, (16 * SECTOR, SECTOR)))
+    pile.refuses(tally, "raid5 with a log of zeros", "md:array", "m0: its log of bad blocks is damaged")
 
 
 def test_nested(tally, pile):

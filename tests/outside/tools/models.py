@@ -344,7 +344,7 @@ def test_lost_superblocks(tally, pile):
     pile.holds(tally, "the other half", "vg0/home", extents_of(B, 3, 5), "old")
     pile.refuses(tally, "the half with the damaged superblock alone", "vg0/home", "was on an array or on another volume, as a text says", "new")
     pile.put("new", bytes(64 * SECTOR) + new[64 * SECTOR:])
-    pile.refuses(tally, "a mirror whose newer half has no superblock", "vg0/home", "new may be one with newer data")
+    pile.refuses(tally, "a mirror whose newer half has no superblock", "vg0/home", "new may be one with other data")
     pile.remove("old")
     pile.refuses(tally, "that half", "vg0/home", "was on an array or on another volume, as a text says")
     pile.remove("new")

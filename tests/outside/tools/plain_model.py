@@ -239,10 +239,10 @@ def can_run(level, layout, disks, count):
     return count >= least
 
 
-def array_of(members, is_careful, has_dark):
+def array_of(members, is_careful, dark):
     """The array of some members, which are pairs of a disk and its superblock. Those count whose events are the highest, or one
     less; which role each has is said by the newest. Of one that is being rebuilt that counts which is rebuilt. Where nothing can be
-    read of another disk, that may be one of those that are missing, with newer data."""
+    read of other, `dark` disks, these may be some of those that are missing, with newer data, or at least with other bytes."""
     newest = max((superblock for _, superblock in members), key=lambda superblock: superblock.events)
     level, layout, chunk, disks, size = newest.level, newest.layout, newest.chunk, newest.disks, newest.size
     here = {}
@@ -252,7 +252,7 @@ def array_of(members, is_careful, has_dark):
         if superblock.events + 1 >= newest.events and role < FAULTY and is_read:
             here[role] = disk, superblock
     whole = [role for role, (_, superblock) in here.items() if superblock.recovered == NEVER]
-    if has_dark and can_run(level, layout, disks, disks - len(whole)):
+    if dark and can_run(level, layout, disks, disks - len(whole)) or any(map(has_bytes, dark)) and len(whole) < disks:
         raise Gap("a disk that can't be read may be newer")
 
     def read(role, at):
@@ -624,13 +624,24 @@ def is_dark(disk):
         return True
 
 
+def has_bytes(disk):
+    """Whether something is on a disk but zeros and what can't be read."""
+    for at in range(disk.count):
+        try:
+            if any(disk.sector(at)):
+                return True
+        except Gap:
+            pass
+    return False
+
+
 class Machine:
     """The arrays and groups in some images, which are pairs of their bytes and the runs of sectors that weren't read. A
     careful one reads no member that is being rebuilt, and nothing where metadata is missing that other sectors need."""
 
     def __init__(self, images, is_careful=False):
         waiting, self.arrays, groups, physical = [image_of(*image) for image in images], {}, {}, {}
-        has_dark = any(map(is_dark, waiting))
+        dark = [disk for disk in waiting if is_dark(disk)]
         while waiting:
             members, waiting_next = {}, []
             for disk in waiting:
@@ -650,7 +661,7 @@ class Machine:
                         groups.setdefault(group["id"], []).append((group["seqno"], text))
             for each in members.values():
                 try:
-                    array = array_of(each, is_careful, has_dark)
+                    array = array_of(each, is_careful, dark)
                 except Gap:
                     continue
                 self.arrays[each[0][1].name] = array
@@ -658,7 +669,7 @@ class Machine:
             waiting = waiting_next
         self.groups = {}
         for each in groups.values():
-            group = Group(max(each, key=lambda row: row[0])[1], physical, is_careful, has_dark)
+            group = Group(max(each, key=lambda row: row[0])[1], physical, is_careful, bool(dark))
             self.groups[group.name] = group
 
     def device(self, name):
