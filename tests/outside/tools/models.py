@@ -201,8 +201,9 @@ def test_stores(tally, pile):
     tally.holds("more snapshots than are looked at", len(whys) == 101 and ["looked at together" in why for why in whys] == [False] * 100 + [True], whys)
     made(0, valid=0x4000001)
     pile.refuses(tally, "a store with a damaged header", "vg0/old", "says neither that it is valid")
-    made(0, wiped=(0, SECTOR), key="merging_store")
-    pile.refuses(tally, "a merge whose store has no header", "vg0/home", "nothing tells whether the merge ended")
+    for count, wiped in ((0, (0, SECTOR)), (5, (SECTOR, 2 * SECTOR))):
+        made(count, wiped=wiped, key="merging_store")
+        pile.refuses(tally, "a merge whose store has no header, or no list", "vg0/home", "nothing tells whether the merge ended")
 
 
 def test_levels(tally, pile):

@@ -384,7 +384,7 @@ class Group:
     def origin(self, name):
         for record in self.records("origin", name):
             if "merging_store" in record:
-                return self.snapshot(self.plain(name), record["merging_store"], self.size_of(name), name)
+                return self.snapshot(self.plain(name), record["merging_store"], self.size_of(name), name, True)
         return self.plain(name)
 
     def disks_of(self, name):
@@ -395,11 +395,11 @@ class Group:
         """Whether the group went on without a disk of a volume."""
         return any("MISSING" in record.get("flags", ()) for record in self.disks_of(name))
 
-    def snapshot(self, origin, store, count, name):
+    def snapshot(self, origin, store, count, name, is_merging=False):
         def sector(at):
             if self.is_left_behind(store) or self.is_left_behind(name):
                 raise Gap("a store or an origin that is older than the other")
-            return snapshot_sector(origin, self.plain(store), at, self.is_careful)
+            return snapshot_sector(origin, self.plain(store), at, self.is_careful, is_merging)
         return Disk(count, sector)
 
     def plain(self, name):
@@ -546,11 +546,14 @@ def exceptions_of(store, chunk):
         area += len(pairs) + 1
 
 
-def snapshot_sector(origin, store, at, is_careful):
-    """A sector of a snapshot: from the store if its list has the chunk, else from the origin."""
+def snapshot_sector(origin, store, at, is_careful, is_merging):
+    """A sector of a snapshot: from the store if its list has the chunk, else from the origin. An area of zeros may be one whose pairs
+    were merged, or one that was lost."""
     magic, valid, _, chunk = struct.unpack("<4L", bytes_of(store, 0, 16))
     if (magic, valid) != (0x70416E53, 1):
         raise Gap("a store without a header, or invalid")
+    if is_merging and len(list(exceptions_of(store, chunk))) % (32 * chunk) == 0:
+        raise Gap("a merge that ended, or whose list is lost")
     pairs = exceptions_of(store, chunk)
     for old, new in list(pairs) if is_careful else pairs:
         if old == at // chunk:
