@@ -554,7 +554,7 @@ def test_read(tally, pile):
     for name, (form, way) in ways.items():
         script = '#!/bin/sh\ncase "$*" in read*"%s"*) {0} "$@" > /dev/null && {0} "$@" | %s;; *) exec {0} "$@";; esac\n'
         os.chmod(pile.program.file(name, script.format(pile.program.path) % (form, way)), 0o755)
-    pile.put("map", b"0x0 ?\n0x0 0x200 -\n0x200 0x%x +\n" % (len(images["one"]) - 512))
+    pile.put("map", b"0x0 ?\n0x0 0x400 +\n0x400 0x200 -\n0x600 0x%x +\n" % (len(images["one"]) - 0x600))
     other = text("vg-0", "g", 4, "ab", *PLAIN, volume("odd", "o", segment(0, 1, "error", "x = 1"), segment(1, 1, "thin-pool")))
     for name, way, content, wanted, more in (
             ("a plain group", "changes", images, changed, []), ("a plain group, that ends early once", "ends", images, HOME, []),

@@ -48,6 +48,8 @@ TABLE_TOO = ("there are both an md superblock and a partition table ({}): name {
 TABLE_OVER_LABEL = ("the disk has a partition table ({}) as well, which was made later, so that others may have "
                     "written there: to take it as it was, take the table out of a copy (dd if=/dev/zero of=COPY "
                     "count=1 conv=notrunc)")
+TABLE_UNREAD = ("{}, where a later partition table may be: to take the disk as it was without one, list these bytes as "
+                "finished in a copy of the map")
 OLDER_ARRAY = "a member of {}, whose member {} has a partition table since: leave that out to take the array without it"
 OTHER_TABLE = ("a partition table ({}) that isn't followed begins it: attach a copy by losetup -P, and give its "
                "partitions, or cut them out by dd")
@@ -334,9 +336,10 @@ class Pile:
     def _look_into(self, spot: Spot, table: Optional[Table]) -> None:
         """Looks at what is no member: a disk with partitions is these."""
         label = physical_volume.label_of(Lenient(spot.device))[0] if table else None
+        lack = spot.device.lack(0, SECTOR) if spot.device is spot.image and not table else None
         if not table or table.fault or label:
-            question = Doubt(TABLE_OVER_LABEL.format(table.kind)) if table and label else None
-            self._recognise(spot, known_in(spot.device), question)
+            why = TABLE_OVER_LABEL.format(table.kind) if table and label else lack and TABLE_UNREAD.format(lack)
+            self._recognise(spot, known_in(spot.device), Doubt(why) if why else None)
         if table:
             self.tables[spot.device] = table
             longest: Dict[int, Tuple[int, int]] = {}
