@@ -232,13 +232,6 @@ def superblock_of(disk):
     return None
 
 
-def can_run(level, layout, disks, count):
-    """Whether so many members of an array may go on without the others, as far as their number tells."""
-    copies = (layout & 255) * (layout >> 8 & 255) if level == 10 else 1
-    least = {1: 1, 4: disks - 1, 5: disks - 1, 6: disks - 2, 10: -(-disks // copies)}.get(level, disks)
-    return count >= least
-
-
 def array_of(members, is_careful, dark):
     """The array of some members, which are pairs of a disk and its superblock. Those count whose events are the highest, or one
     less; which role each has is said by the newest. Of one that is being rebuilt that counts which is rebuilt. Where nothing can be
@@ -252,7 +245,7 @@ def array_of(members, is_careful, dark):
         if superblock.events + 1 >= newest.events and role < FAULTY and is_read:
             here[role] = disk, superblock
     whole = [role for role, (_, superblock) in here.items() if superblock.recovered == NEVER]
-    if dark and can_run(level, layout, disks, disks - len(whole)) or any(map(has_bytes, dark)) and len(whole) < disks:
+    if len(whole) < disks and any(is_careful or has_bytes(disk) for disk in dark):
         raise Gap("a disk that can't be read may be newer")
 
     def read(role, at):
@@ -629,13 +622,8 @@ def is_dark(disk):
 
 def has_bytes(disk):
     """Whether something is on a disk but zeros and what can't be read."""
-    for at in range(disk.count):
-        try:
-            if any(disk.sector(at)):
-                return True
-        except Gap:
-            pass
-    return False
+    read = lambda is_lacking, at: b"" if is_lacking else disk.sector(at)
+    return any(any(first_readable(read, [(False, at), (True, at)])) for at in range(disk.count))
 
 
 class Machine:
