@@ -62,7 +62,26 @@ def test_damaged(tally, pile):
     """A newer half of other bytes, whose superblock has a wrong sum."""
     halves = [member(content_of(name, 64), 1, number, (0, 1), 9 - 5 * number) for number, name in enumerate(("new", "old"))]
     pile.hold({"new": patched(halves[0], (4096 + 200, b"\xff")), "old": halves[1]})
-    pile.refuses(tally, "an older half beside it", "md:array", "new may be one with newer data")
+    pile.refuses(tally, "an older half beside it", "md:array", "new may be one with other data")
+
+
+def test_parity(tally, pile):
+    """raid5 with a member whose superblock can't be read: what is computed in its place may be other than what it has, as where writes
+    failed, unless nothing is there. A log of bad blocks with an entry for no sector is damaged."""
+    def put(data, version, **changes):
+        legs = parity_legs(data, 5, 2, 3, 8)
+        pile.hold({"m%d" % role: changes.get("m%d" % role, lambda it: it)(member(
+            leg, 5, role, range(3), 7, layout=2, size=len(leg) // SECTOR, version=version, bad=[(70, 3)] * (not role))) for role, leg in enumerate(legs)})
+    data = content_of("raid5", 2 * 3 * 8)
+    for name, made, version, change in (
+            ("of zeros", data, 2, lambda it: wiped(it, (4096, 4096))), ("whose sum is wrong", data, 2, lambda it: patched(it, (4096 + 200, b"\xff"))),
+            ("of zeros behind the label", disk("a", A, text("vg0", "g", 4, "a", HOME)), 0, lambda it: wiped(it, (-64 * SECTOR, 64 * SECTOR)))):
+        put(made, version, m0=change)
+        pile.refuses(tally, "raid5 with a superblock " + name, "md:array", "m0 may be one with other data, as its md superblock can't be read: " + LEAVE_OUT)
+    put(data, 2, m0=lambda it: bytes(len(it)))
+    pile.holds(tally, "raid5 beside zeros", "md:array", data)
+    put(data, 2, m0=lambda it: wiped(it, (16 * SECTOR, SECTOR)))
+    pile.refuses(tally, "raid5 with a log of zeros", "md:array", "m0: its log of bad blocks is damaged")
 
 
 def test_nested(tally, pile):
@@ -94,12 +113,18 @@ def test_copies(tally, pile):
 
 
 def test_restored_label(tally, pile):
-    """A disk whose label is zeros is taken by its text, but where the place of a partition table's copy can't be read."""
-    content = wiped(disk("a", A, text("vg0", "g", 4, "a", HOME)), (SECTOR, SECTOR))
-    pile.hold({"disk": content})
-    pile.holds(tally, "a disk without its label", "vg0/home", NEW)
-    pile.put("map", b"0x0 ?\n0x0 0x%x +\n0x%x 0x200 -\n" % (len(content) - SECTOR, len(content) - SECTOR))
-    pile.refuses(tally, "the same, whose last sector can't be read", "vg0/home", "no group is called vg0", "disk", more=["--map", "disk=map"])
+    """A disk whose label is zeros is taken by its text, but where the place of a partition table's copy can't be read. So is the place of a
+    table, and one where a removed group may have its last text."""
+    content, home = disk("a", A, text("vg0", "g", 4, "a", HOME)), volume("home", "h", linear(0, 5, ("pv0", 20)))
+    gone = disk("a", A, text("vg0", "g", 3, "a", home), text("vg0", "g", 4, "a", HOME), text("vg0", "g", 5, "a"), is_current=False)
+    unlabelled, later = wiped(content, (SECTOR, SECTOR)), gone.index(b"seqno = 4") // SECTOR * SECTOR
+    for name, image, why, hole in (("a disk without its label", unlabelled, "no group is called vg0", len(content) - SECTOR),
+                                   ("a disk", content, "where a later partition table may be", 0), ("a removed volume", gone, "a later one can't be read", later)):
+        pile.hold({"disk": image})
+        pile.holds(tally, name, "vg0/home", NEW)
+        end = hole + (SECTOR if image is not gone else MIB // 32)
+        pile.put("map", b"0x0 ?\n" + b"0x0 0x%x +\n" % hole * bool(hole) + b"0x%x 0x%x -\n" % (hole, end - hole) + b"0x%x 0x%x +\n" % (end, len(image) - end) * (end < len(image)))
+        pile.refuses(tally, name + " that can't all be read", "vg0/home", why, "disk", more=["--map", "disk=map"])
 
 
 def test_apart(tally, pile):

@@ -201,8 +201,9 @@ def test_stores(tally, pile):
     tally.holds("more snapshots than are looked at", len(whys) == 101 and ["looked at together" in why for why in whys] == [False] * 100 + [True], whys)
     made(0, valid=0x4000001)
     pile.refuses(tally, "a store with a damaged header", "vg0/old", "says neither that it is valid")
-    made(0, wiped=(0, SECTOR), key="merging_store")
-    pile.refuses(tally, "a merge whose store has no header", "vg0/home", "nothing tells whether the merge ended")
+    for count, wiped in ((0, (0, SECTOR)), (5, (SECTOR, 2 * SECTOR))):
+        made(count, wiped=wiped, key="merging_store")
+        pile.refuses(tally, "a merge whose store has no header, or no list", "vg0/home", "nothing tells whether the merge ended")
 
 
 def test_levels(tally, pile):
@@ -344,7 +345,7 @@ def test_lost_superblocks(tally, pile):
     pile.holds(tally, "the other half", "vg0/home", extents_of(B, 3, 5), "old")
     pile.refuses(tally, "the half with the damaged superblock alone", "vg0/home", "was on an array or on another volume, as a text says", "new")
     pile.put("new", bytes(64 * SECTOR) + new[64 * SECTOR:])
-    pile.refuses(tally, "a mirror whose newer half has no superblock", "vg0/home", "new may be one with newer data")
+    pile.refuses(tally, "a mirror whose newer half has no superblock", "vg0/home", "new may be one with other data")
     pile.remove("old")
     pile.refuses(tally, "that half", "vg0/home", "was on an array or on another volume, as a text says")
     pile.remove("new")
@@ -553,7 +554,7 @@ def test_read(tally, pile):
     for name, (form, way) in ways.items():
         script = '#!/bin/sh\ncase "$*" in read*"%s"*) {0} "$@" > /dev/null && {0} "$@" | %s;; *) exec {0} "$@";; esac\n'
         os.chmod(pile.program.file(name, script.format(pile.program.path) % (form, way)), 0o755)
-    pile.put("map", b"0x0 ?\n0x0 0x200 -\n0x200 0x%x +\n" % (len(images["one"]) - 512))
+    pile.put("map", b"0x0 ?\n0x0 0x400 +\n0x400 0x200 -\n0x600 0x%x +\n" % (len(images["one"]) - 0x600))
     other = text("vg-0", "g", 4, "ab", *PLAIN, volume("odd", "o", segment(0, 1, "error", "x = 1"), segment(1, 1, "thin-pool")))
     for name, way, content, wanted, more in (
             ("a plain group", "changes", images, changed, []), ("a plain group, that ends early once", "ends", images, HOME, []),

@@ -232,17 +232,10 @@ def superblock_of(disk):
     return None
 
 
-def can_run(level, layout, disks, count):
-    """Whether so many members of an array may go on without the others, as far as their number tells."""
-    copies = (layout & 255) * (layout >> 8 & 255) if level == 10 else 1
-    least = {1: 1, 4: disks - 1, 5: disks - 1, 6: disks - 2, 10: -(-disks // copies)}.get(level, disks)
-    return count >= least
-
-
-def array_of(members, is_careful, has_dark):
+def array_of(members, is_careful, dark):
     """The array of some members, which are pairs of a disk and its superblock. Those count whose events are the highest, or one
     less; which role each has is said by the newest. Of one that is being rebuilt that counts which is rebuilt. Where nothing can be
-    read of another disk, that may be one of those that are missing, with newer data."""
+    read of other, `dark` disks, these may be some of those that are missing, with newer data, or at least with other bytes."""
     newest = max((superblock for _, superblock in members), key=lambda superblock: superblock.events)
     level, layout, chunk, disks, size = newest.level, newest.layout, newest.chunk, newest.disks, newest.size
     here = {}
@@ -252,7 +245,7 @@ def array_of(members, is_careful, has_dark):
         if superblock.events + 1 >= newest.events and role < FAULTY and is_read:
             here[role] = disk, superblock
     whole = [role for role, (_, superblock) in here.items() if superblock.recovered == NEVER]
-    if has_dark and can_run(level, layout, disks, disks - len(whole)):
+    if len(whole) < disks and any(is_careful or has_bytes(disk) for disk in dark):
         raise Gap("a disk that can't be read may be newer")
 
     def read(role, at):
@@ -384,7 +377,7 @@ class Group:
     def origin(self, name):
         for record in self.records("origin", name):
             if "merging_store" in record:
-                return self.snapshot(self.plain(name), record["merging_store"], self.size_of(name), name)
+                return self.snapshot(self.plain(name), record["merging_store"], self.size_of(name), name, True)
         return self.plain(name)
 
     def disks_of(self, name):
@@ -395,11 +388,11 @@ class Group:
         """Whether the group went on without a disk of a volume."""
         return any("MISSING" in record.get("flags", ()) for record in self.disks_of(name))
 
-    def snapshot(self, origin, store, count, name):
+    def snapshot(self, origin, store, count, name, is_merging=False):
         def sector(at):
             if self.is_left_behind(store) or self.is_left_behind(name):
                 raise Gap("a store or an origin that is older than the other")
-            return snapshot_sector(origin, self.plain(store), at, self.is_careful)
+            return snapshot_sector(origin, self.plain(store), at, self.is_careful, is_merging)
         return Disk(count, sector)
 
     def plain(self, name):
@@ -546,11 +539,14 @@ def exceptions_of(store, chunk):
         area += len(pairs) + 1
 
 
-def snapshot_sector(origin, store, at, is_careful):
-    """A sector of a snapshot: from the store if its list has the chunk, else from the origin."""
+def snapshot_sector(origin, store, at, is_careful, is_merging):
+    """A sector of a snapshot: from the store if its list has the chunk, else from the origin. An area of zeros may be one whose pairs
+    were merged, or one that was lost."""
     magic, valid, _, chunk = struct.unpack("<4L", bytes_of(store, 0, 16))
     if (magic, valid) != (0x70416E53, 1):
         raise Gap("a store without a header, or invalid")
+    if is_merging and len(list(exceptions_of(store, chunk))) % (32 * chunk) == 0:
+        raise Gap("a merge that ended, or whose list is lost")
     pairs = exceptions_of(store, chunk)
     for old, new in list(pairs) if is_careful else pairs:
         if old == at // chunk:
@@ -624,13 +620,19 @@ def is_dark(disk):
         return True
 
 
+def has_bytes(disk):
+    """Whether something is on a disk but zeros and what can't be read."""
+    read = lambda is_lacking, at: b"" if is_lacking else disk.sector(at)
+    return any(any(first_readable(read, [(False, at), (True, at)])) for at in range(disk.count))
+
+
 class Machine:
     """The arrays and groups in some images, which are pairs of their bytes and the runs of sectors that weren't read. A
     careful one reads no member that is being rebuilt, and nothing where metadata is missing that other sectors need."""
 
     def __init__(self, images, is_careful=False):
         waiting, self.arrays, groups, physical = [image_of(*image) for image in images], {}, {}, {}
-        has_dark = any(map(is_dark, waiting))
+        dark = [disk for disk in waiting if is_dark(disk)]
         while waiting:
             members, waiting_next = {}, []
             for disk in waiting:
@@ -650,7 +652,7 @@ class Machine:
                         groups.setdefault(group["id"], []).append((group["seqno"], text))
             for each in members.values():
                 try:
-                    array = array_of(each, is_careful, has_dark)
+                    array = array_of(each, is_careful, dark)
                 except Gap:
                     continue
                 self.arrays[each[0][1].name] = array
@@ -658,7 +660,7 @@ class Machine:
             waiting = waiting_next
         self.groups = {}
         for each in groups.values():
-            group = Group(max(each, key=lambda row: row[0])[1], physical, is_careful, has_dark)
+            group = Group(max(each, key=lambda row: row[0])[1], physical, is_careful, bool(dark))
             self.groups[group.name] = group
 
     def device(self, name):

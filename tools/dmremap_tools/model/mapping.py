@@ -36,7 +36,7 @@ NAME, NEXT, OLDER = "snapshot", "activate it with lvm2, or save the origin", "gi
 INVALID_SNAPSHOT = ("the snapshot is invalid: its store was full, and chunks that the origin overwrote since are lost; "
                     "save the origin instead")
 LOST = f"the store: its header is zeros, and what follows isn't, so that it isn't new: save the origin, or {OLDER}"
-UNKNOWN = f"the store: its header is zeros, and nothing tells whether the merge ended: {OLDER}"
+UNKNOWN = f"the store: its header or its list is zeros, and nothing tells whether the merge ended: {OLDER}"
 ODD = f"the store: its header says neither that it is valid nor that it isn't, {store_places.DAMAGED}: {OLDER}"
 
 # Pieces in columns: disks, or what else is done; starts there, which without a disk mean nothing; and how many sectors.
@@ -382,7 +382,7 @@ def store_fault(store: Device, chunk: int, is_merging: bool) -> Optional[str]:
     is_new = False
     for start, _, content in list_of(store, chunk):
         is_new = is_new if start else not any(content[:4])
-        if is_new and (is_merging or any(content)):
+        if (is_new or is_merging and start and not any(content)) and (is_merging or any(content)):
             return UNKNOWN if is_merging else LOST
         if not start and not is_new and content[4:8] != b"\1\0\0\0":
             return ODD

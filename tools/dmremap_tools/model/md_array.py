@@ -70,11 +70,9 @@ class Array(md_chunks.Shape):
         super().__init__(level, superblock.places, named, chunk, used, *[copies] * (level == "raid10"))
         self.identity = superblock.array.hex()
         self.label = f"md:{superblock.name.rpartition(':')[2] or self.identity}"
-        self.by_role: Dict[int, Member] = {}
-        self._filling: Dict[int, Member] = {}
+        self.by_role, self._filling = {}, {}  # type: Dict[int, Member], Dict[int, Member]
         self.stale: List[Member] = []
-        self.why: Optional[str] = None
-        self.apart: Optional[str] = None
+        self.why, self.apart = None, None  # type: Optional[str], Optional[str]
         self.device: Optional[Device] = None
         try:
             self._sort_members()

@@ -37,7 +37,7 @@ OLD, OLD_ROOM, OLD_MINOR, OLD_RESHAPING = "0.90", 1 << 16, 90, 91
 AT_END = (OLD, "1.0")
 # The word where it says what the device itself is, and the bits there that say whether it has all data.
 OLD_SELF, OLD_ACTIVE, OLD_FAULTY = 992, 0b110, 0b1001
-MOST_DEVICES = 4096
+MOST_DEVICES, BAD_LOG = 4096, "{}: its log of bad blocks is damaged: leave that out to take what the others have"
 # A superblock: its version, and where it lies in the member; the array, its level, layout, sectors of a chunk and
 # number of places; the first sector of this member's data, how many it has, and how many the array uses of each; how
 # often the array had changed; the number of the member, its place, if it has one, and the place of each number; the
@@ -98,14 +98,16 @@ def marked_in(device: Device, at: int, superblock: Optional[Superblock] = None) 
 
 
 def bad_blocks(member: Member) -> List[Run]:
-    """The runs of bytes of a member that its log says it lacks."""
+    """The runs of bytes of a member that its log says it lacks. One with an entry for no sector is refused."""
     superblock, (shift, size, offset) = member.superblock, member.superblock.bad_log
     if not superblock.features & BAD_BLOCKS:
         return []
     content = member.device.read(superblock.at + offset * SECTOR, size * SECTOR)
     used = itertools.takewhile(lambda entry: entry[0] != CLEAN, struct.iter_unpack("<Q", content))
-    pairs = (((entry >> 10) << shift, (entry & 0x3FF) << shift) for entry, in used)
-    return [(start * SECTOR, (start + count) * SECTOR) for start, count in pairs]
+    runs = [((it >> 10 << shift) * SECTOR, ((it >> 10) + (it & 0x3FF) << shift) * SECTOR) for it, in used]
+    if any(begin == end for begin, end in runs):
+        raise Refusal(member.device.name, BAD_LOG.format(member.device.name))
+    return runs
 
 
 def _found(image: Lenient, size: int) -> Iterator[Tuple[int, bytes, Optional[Superblock]]]:

@@ -32,6 +32,7 @@ MOST_AREAS, MOST_AREA = 4, 64 << 20
 SEARCHED = WINDOW = 4 << 20
 FIRST_AREA = 4096
 MISSING, EMPTY, NO_COPY = "the image ends before it does", "it has no text", "lvm2 keeps no text in it"
+LOST = "it has no current text, and some of its older ones can't be read"
 # What a text begins with, after its group's name: the group's id, and the number of the text in that group.
 BEGINNING = re.compile(rb' \{\nid = "([^"\n]{0,64})"\nseqno = ([0-9]{1,10})\n')
 NAME, LONGEST_NAME, LONGEST_BEGINNING = re.compile(rb"[A-Za-z0-9_+.-]+\Z"), 127, 256
@@ -226,6 +227,7 @@ def area_at(image: Lenient, start: int, size: int, end: int) -> MetadataArea:
         (fault, fault),
         (ring > size, f"its header says that it has {ring} bytes, of which there are {size}"),
         (flags & IGNORED, NO_COPY),
+        ((offset == 0 or length == 0) and len(image.read(start, size)) < size, LOST),
         (offset == 0 or length == 0, EMPTY),
         (not (SECTOR <= offset < ring and length <= ring - SECTOR), "its header names a place outside of it"))
     fault = next((why for is_so, why in faults if is_so), None)
@@ -269,7 +271,7 @@ def older_texts(image: Lenient) -> List[Text]:
     label = label_of(image)[0]
     places = label.areas if label else sound_areas(area_headers_in(image))
     return [text for start, size in [it for it in places if SECTOR < it[1] <= MOST_AREA][:MOST_AREAS]
-            for text in texts_of_ring(start + SECTOR, image.read(start + SECTOR, size - SECTOR))]
+            for text in texts_of_ring(start + SECTOR, image.filled(start + SECTOR, size - SECTOR))]
 
 
 class PhysicalVolume:
@@ -281,11 +283,8 @@ class PhysicalVolume:
         self.device, self.place, self.label, self.start = device, device.name, label, start
         self.identity, self.size = label.identity.decode("ascii", "replace"), label.size
         self._image = Lenient(device)
-        self.faults: List[str] = []
-        self.doubt: Optional[str] = None
-        self.question: Optional[str] = None
-        self.current: List[Text] = []
-        self.unread: List[bytes] = []
+        self.doubt, self.question = None, None  # type: Optional[str], Optional[str]
+        self.faults, self.current, self.unread = [], [], []  # type: List[str], List[Text], List[bytes]
         self.told: Dict[bytes, bytes] = {}
         self.areas = [area_at(self._image, at, size, label.size) for at, size in label.areas]
         for at, text, fault, told in self.areas:

@@ -13,6 +13,7 @@ from dmremap_tools.model import mapping, md_superblock, physical_volume
 from dmremap_tools.model.device import (ANY, COMPARED_AT_ONCE, Device, Doubt, Image, Lenient, Missing, NamedDevice,
                                         Part, Run, is_alike)
 from dmremap_tools.model.groups import REMOVED, Group, Texts, Volume, same_id
+from dmremap_tools.model.layout import tried
 from dmremap_tools.model.md_array import Array, put_together
 from dmremap_tools.model.md_chunks import sum_in_field
 from dmremap_tools.model.md_superblock import AT_END, MIRRORED, OLD, Member, Superblock, has_all
@@ -33,7 +34,7 @@ NESTED = (f"its members lie on arrays in {MOST_LEVELS} levels, and no more are f
 OLD_MEMBER = "a member of an md array with metadata 0.90, which isn't followed: assemble copies with mdadm --readonly"
 DAMAGED = ("its md superblock at byte {} is damaged: give the other members alone, or make the array anew on copies "
            "(mdadm --create --assume-clean)")
-MAY_BE_NEWER = ("it lacks members, and {} may be one with newer data, as its md superblock can't be read: leave that "
+MAY_BE_NEWER = ("it lacks members, and {} may be one with other data, as its md superblock can't be read: leave that "
                 "out to take what is here")
 MAY_BE_OLD = "it lacks members that others may have written to since, so that this may be older"
 PERHAPS_PART = ("{} was found by looking through the image, and {}, so that it may have a part of its bytes, or old "
@@ -47,6 +48,8 @@ TABLE_TOO = ("there are both an md superblock and a partition table ({}): name {
 TABLE_OVER_LABEL = ("the disk has a partition table ({}) as well, which was made later, so that others may have "
                     "written there: to take it as it was, take the table out of a copy (dd if=/dev/zero of=COPY "
                     "count=1 conv=notrunc)")
+TABLE_UNREAD = ("{}, where a later partition table may be: to take the disk as it was without one, list these bytes as "
+                "finished in a copy of the map")
 OLDER_ARRAY = "a member of {}, whose member {} has a partition table since: leave that out to take the array without it"
 OTHER_TABLE = ("a partition table ({}) that isn't followed begins it: attach a copy by losetup -P, and give its "
                "partitions, or cut them out by dd")
@@ -202,21 +205,22 @@ class Pile:
         return (spot for spot, what, _ in self.found
                 if what == "unknown" or spot.image and (spot.image.other_form or not spot.image.size))
 
-    def _halves(self, array: Array) -> Iterator[Spot]:
+    def _halves(self, array: Array, made: Device) -> Iterator[Spot]:
         """What may be a member that an array lacks, on another disk: its superblock is damaged, or nothing is found in
-        it that is long enough, or it has bytes of a mirror."""
+        it, and it is long enough, and has bytes if all are here; or it has the array's label, or bytes of a mirror."""
         device, superblock = array.best
         yield from (spot for spot, it in self.damaged if it == superblock.array or it not in self._members)
         images = {None, *(self.spot_of[member.device].image for member in array.members)}
         start, size = superblock.start * SECTOR, array.length(array.best) * SECTOR
         dark, members = [spot.device for spot in self._dark()], {member.device for member in self.members}
-        label = physical_volume.label_at(device, start)
+        label = physical_volume.label_at(made, 0)
         for spot in (found.spot for found in self.found if found.spot.image not in images):
             other, is_long = physical_volume.label_at(spot.device, start), spot.device.size >= start + size
             if spot.device in dark:
-                yield from [spot] * (is_long or spot.device is spot.image)
-            elif is_long and array.level == "raid1" and spot.device not in members and not (other and other != label) \
-                    and is_alike(spot.device, device, start, size):
+                may_be = array.may_be_old or is_alike(spot.device, spot.device, 0, spot.device.size)
+                yield from [spot] * (may_be and (is_long or spot.device is spot.image))
+            elif is_long and spot.device not in members and (
+                    other == label if other else array.level == "raid1" and is_alike(spot.device, device, start, size)):
                 yield spot
 
     def spots(self) -> List[Spot]:
@@ -332,9 +336,10 @@ class Pile:
     def _look_into(self, spot: Spot, table: Optional[Table]) -> None:
         """Looks at what is no member: a disk with partitions is these."""
         label = physical_volume.label_of(Lenient(spot.device))[0] if table else None
+        lack = spot.device.lack(0, SECTOR) if spot.device is spot.image and not table else None
         if not table or table.fault or label:
-            question = Doubt(TABLE_OVER_LABEL.format(table.kind)) if table and label else None
-            self._recognise(spot, known_in(spot.device), question)
+            why = TABLE_OVER_LABEL.format(table.kind) if table and label else lack and TABLE_UNREAD.format(lack)
+            self._recognise(spot, known_in(spot.device), Doubt(why) if why else None)
         if table:
             self.tables[spot.device] = table
             longest: Dict[int, Tuple[int, int]] = {}
@@ -400,10 +405,9 @@ class Pile:
                 array = made[identity] = put_together(self._members[identity])
                 if level == MOST_LEVELS:
                     array.give_up(NESTED)
-                newer = next(self._halves(array), None) if array.device and array.may_be_old else None
-                if newer:
-                    array.why = Doubt(MAY_BE_NEWER.format(newer.device.name))
                 if array.device:
+                    halves = self._halves(array, array.device) if array.missing else iter(())
+                    array.why = next((Doubt(MAY_BE_NEWER.format(it.device.name)) for it in halves), array.why)
                     whys = (self._question_of(self.spot_of[it.device]) or (self._stripes(
                         "the md superblock", it.device, (it.superblock.start + it.superblock.length) * SECTOR,
                         lacking) if lacking - {identity} else None) for it in array.members)
@@ -450,10 +454,7 @@ class Pile:
                 ids = [it.identity + self._read_of(device, notes) for it in self.arrays if it.device is device]
                 return NamedDevice(name, device, device.size, ids, notes)
             raise Refusal(shown, f"both an image and a volume are called so: say ./{shown}, or {path}")
-        is_whole = False
-        with contextlib.suppress(Refusal):
-            is_whole = self._volume_named(name).why() is None
-        if not is_whole:
+        if tried(lambda: self._volume_named(name).why(), str) is not None:
             self.search()
         volume = self._volume_named(name)
         side, found = volume.side, volume.device()
