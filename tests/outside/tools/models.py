@@ -497,6 +497,8 @@ def test_saving(tally, pile):
     got = pile.call("save", "vg0/home", "out", "./table", "--fresh")
     tally.tells("a word of the other form", got, 2, err="--fresh is for FORMAT FILE")
     tally.tells("an image that isn't there", pile.call("scan", "nowhere"), 1, err="nowhere: No such file or directory")
+    pile.put("short", bytes(74))
+    tally.same("an image that is too short", pile.call("scan", "short"), 0, "short: foreign: it is too short: it has 74 bytes\n")
 
 
 def test_files(tally, pile):
