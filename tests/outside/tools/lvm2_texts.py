@@ -132,7 +132,7 @@ def test_damaged(tally, program, top):
 
 def test_asked(tally, program, top):
     """The program is asked: what it says decides, and there is no copy where it can't be."""
-    path = program.file("lvm2/refuses", '#!/bin/sh\necho "dmremap: source: field at 3" >&2\nexit 1\n')
+    path = program.file("lvm2/refuses", '#!/bin/sh\n[ "$1" = map ] || exec %s "$@"\necho "dmremap: source: field at 3" >&2\nexit 1\n' % program.path)
     os.chmod(path, 0o755)
     tally.same("a copy of no program", copied(program, top, BARE, ["--program", "nowhere/dmremap"]), 1, "",
                "dmremap-tools lvm2-text: nowhere/dmremap: No such file or directory\n")

@@ -409,6 +409,8 @@ def test_killed(tally, top, folder):
         tally.holds("a save to " + name, got.status == (2 if name == "-" else 0) and os.path.exists(os.path.join(folder, "-")) == (name != "-"),
                     "status %s, %r" % (got.status, got.err))
         tally.holds("what is said of it", name != "-" or got.err.decode().endswith("\n%s save: %s\n" % (TOOL, NO_FILE)), got.err)
+    got = call(top, ["layout", "--program", "/bin/true", *stack], folder=folder)
+    tally.tells("another program", got, 2, "", TOOL + " layout: argument --program: it isn't dmremap, by its --version: /bin/true\n")
     got = call(top, ["layout", "--program", "./dmremap", "table", "-", "-"], folder=folder)
     tally.same("tables and disks from one input", got, 2, "", TOOL + " layout: standard input can't be two files: give the path of one\n")
 
