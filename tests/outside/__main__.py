@@ -35,7 +35,7 @@ from harness import Case, Program, Tally, case_of
 TOP = os.path.dirname(os.path.dirname(HERE))
 BUILT = os.path.join(TOP, "crates", "dmremap", "out", "dmremap")
 # The modules that take longest, which begin first, and those that measure time or memory, which run at the end, one by one.
-LONG = ["adding", "tool_streams", "launcher", "building", "installs", "models", "trying", "saves", "explained", "remedies", "metadata_areas",
+LONG = ["adding", "tool_streams", "launcher", "building", "installs", "models", "trying", "saves", "explained", "metadata_areas",
         "reading_list"]
 ALONE = ["limits", "hostile", "growths"]
 

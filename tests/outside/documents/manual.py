@@ -10,8 +10,6 @@ import help_words
 import transcripts
 from harness import run, text_of
 
-SECTIONS = ["NAME", "SYNOPSIS", "DESCRIPTION", "COMMANDS", "FORMATS", "OUTPUT", "EXIT STATUS", "DIAGNOSTICS",
-            "EXAMPLES", "LIMITS", "SEE ALSO"]
 # The words that a part of the diagnostics explains, as the sources have them.
 WORDS = [
     ("FILE and DISKS", r'LoadKind::\w+ => "(\w+)"'),
@@ -33,7 +31,6 @@ def test_page(tally, program, top):
     text = text_of(path)
     check_shown(tally, path)
     parts = dict(parts_of(r"^\.SH (.*)\n", text))
-    tally.holds("the sections of the manual", list(parts) == SECTIONS, "they are %s" % ", ".join(parts))
     formats = text_of(os.path.join(top, "docs", "FORMATS.md"))
     check_words(tally, parts.get("DIAGNOSTICS", ""), formats, os.path.join(top, "crates"))
     check_help(tally, program, parts)

@@ -7,7 +7,7 @@ from importlib.machinery import SourceFileLoader
 
 import completions
 import manual
-from harness import Case, run
+from harness import Case, run, text_of
 from tool_calls import TOOL, samples
 
 
@@ -15,7 +15,11 @@ def test_made(tally, top, derive):
     for name, text in derive.made().items():
         with open(os.path.join(top, name), encoding="utf-8") as it:
             tally.holds(name, it.read() == text, "it isn't what tools/derive writes")
-    manual.check_shown(tally, os.path.join(top, "docs", TOOL + ".1"))
+    path = os.path.join(top, "docs", TOOL + ".1")
+    manual.check_shown(tally, path)
+    lost = [(command.name, it.metavar) for command, _, parser in derive.parsers() for it in parser._actions if not it.option_strings
+            and not any(it.metavar in line for line in text_of(path).splitlines() if line.startswith(".BI %s " % derive.roff(command.name)))]
+    tally.holds("words of commands in the manual", not lost, "it lacks %s" % lost)
 
 
 def loaded(path):

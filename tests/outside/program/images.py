@@ -239,17 +239,21 @@ def test_rings(tally, program):
         tally.holds("an image of %d bytes" % (cut * 256), is_told, "status %s, %r" % (got.status, got.err))
 
 
-def test_files(tally, program):
-    """What can't be opened or read as an image, and many images."""
+def unreadable(program, content):
+    """What can't be opened or read as an image: what it is, its path, and how it is run."""
     folder, pipe = os.path.join(program.folder, "folder"), os.path.join(program.folder, "image.pipe")
     os.makedirs(folder, exist_ok=True)
     if not os.path.exists(pipe):
         os.mkfifo(pipe)
-    secret = program.file("secret.img", PAIR[0][1])
+    secret = program.file("secret.img", content)
     os.chmod(secret, 0)
-    for name, path, how in (("a folder", folder, {}), ("a pipe", pipe, {}), ("no file", "missing", {}),
-                            ("a device of characters", "/dev/zero", {}),
-                            ("a file that may not be read", secret, {"before": become_nobody})):
+    return [("a folder", folder, {}), ("a pipe", pipe, {}), ("no file", "missing", {}), ("an empty file", "/dev/null", {}),
+            ("a file that may not be read", secret, {"before": become_nobody})]
+
+
+def test_files(tally, program):
+    """What can't be opened or read as an image, and many images."""
+    for name, path, how in [*unreadable(program, PAIR[0][1]), ("a device of characters", "/dev/zero", {})]:
         tally.same("%s as an image" % name, mapped(program, [("sda", path)], **how), 1, "", told("sda", "read"))
     many = [("d%d" % number, "missing") for number in range(2000)]
     tally.same("2,000 images", mapped(program, many), 1, "", "dmremap: paths: limit at 1025\n")

@@ -7,7 +7,7 @@ import random
 import images
 import snapshots
 import store_lists
-from harness import FULL_OUTPUT, become_nobody, run
+from harness import FULL_OUTPUT, run
 
 SECTOR = 512
 # The most sectors that the program reads at once.
@@ -255,15 +255,8 @@ def test_words(tally, program):
 def test_files(tally, program):
     """What can't be opened or read as an image, and outputs that are closed, full or have no reader."""
     contents, pairs, dice = machine(2)
-    folder, pipe = os.path.join(program.folder, "folder"), os.path.join(program.folder, "image.pipe")
-    os.makedirs(folder, exist_ok=True)
-    if not os.path.exists(pipe):
-        os.mkfifo(pipe)
-    secret = program.file("secret.img", contents["sda"])
-    os.chmod(secret, 0)
     table = "a: 0 3 zero\na: 3 300 linear sda 0\n"
-    for name, path, how in (("a folder", folder, {}), ("a pipe", pipe, {}), ("no file", "missing", {}),
-                            ("an empty file", "/dev/null", {}), ("a file that may not be read", secret, {"before": become_nobody})):
+    for name, path, how in images.unreadable(program, contents["sda"]):
         got = read(program, table, "sda 400\n", {"sda": path}, "a", folder=program.folder, **how)
         tally.same("%s as an image" % name, got, 7, bytes(3 * SECTOR), "dmremap: device: read at 3\n")
     part = program.file("part", bytes(1048576) + contents["sda"]) + "?offset=1048576&length=%d"

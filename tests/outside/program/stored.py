@@ -8,8 +8,9 @@ import signal
 import subprocess
 import threading
 
+import images
 from harness import Outcome, become_nobody, run
-from store_lists import MAGIC, SECTOR, end_of, parts, place, taken
+from store_lists import MAGIC, SECTOR, end_of, parts, place, store, taken
 from streams import figure_of
 from tool_calls import read
 
@@ -313,16 +314,8 @@ def test_images(tally, program):
             got = stored(program, TABLE % (8000, 8), DISKS % (8000, 8000), part, "R s 0 1\n")
             wanted = (0, "1 R cow %d 1\n" % (place(8, 299) * 8)) if is_read else (1, "", told("read"))
             tally.same("a part of %d sectors" % sectors, got, *wanted)
-    folder = os.path.join(program.folder, "folder")
-    os.makedirs(folder, exist_ok=True)
-    pipe = os.path.join(program.folder, "image.pipe")
-    if not os.path.exists(pipe):
-        os.mkfifo(pipe)
-    secret = put(program, "secret.img", 8, [(1, 2)])
-    os.chmod(secret, 0)
-    for name, path, how in (("a folder", folder, {}), ("a pipe", pipe, {}), ("no file", "missing", {}), ("an empty path", "?offset=0&length=512", {}),
-                            ("a device of characters", "/dev/zero", {}), ("a file as a folder", "c.img/c", {}),
-                            ("a file that may not be read", secret, {"before": become_nobody})):
+    for name, path, how in [*images.unreadable(program, store([(1, 2)])), ("an empty path", "?offset=0&length=512", {}),
+                            ("a device of characters", "/dev/zero", {}), ("a file as a folder", "c.img/c", {})]:
         got = stored(program, TABLE % (800, 8), DISKS % (800, 4000), "cow %s\n" % path, "R s 8 1\n", **how)
         tally.same("%s as an image" % name, got, 1, "", told("read"))
 

@@ -9,9 +9,6 @@ VERSION = "0.1.0"
 VOLUME = "vol: 0 100 linear sda 50\n"
 DISKS = "sda 150\n"
 
-HELP = [["--help"], ["-h"], ["help"], ["help", "map"], ["map", "--help"], ["table", "-h"], ["help", "concise"],
-        ["name", "--help"], ["splitname", "--help"]]
-
 # Words that are refused whatever formats and commands there are.
 REFUSED = [*map(str.split, ["map", "map table", "nonsense", "table", "concise nonsense TABLE DISKS", "name vg0",
     "name vg0 lv0 real more", "name vg0 -lv0", "splitname", "splitname a-b c-d", "--status name vg0 lv0",
@@ -34,7 +31,7 @@ TOLD = [(line, told) for told, rows in [
     ("unexpected argument '--status'", ["table lvm a --status", "map lvm a -- b --status", "splitname a-b --status",
                                 "--status map table a b", "--status table lvm a"]),
     ("a similar subcommand exists: 'table'", ["tabel lvm a"]),
-    ("a similar value exists: 'table'", ["concise tabel a b"]),
+    ("a similar value exists: 'table'", ["concise tabel a b"]), ("a similar value exists: 'lvm'", ["table lvn a"]),
     ("Usage: dmremap <COMMAND>", [""]),
     ("<FORMAT> <FILE>", ["map"]),
     ("invalid value 'lvm2' for '<FORMAT>'", ["map lvm2 a"]),
@@ -73,7 +70,7 @@ HELPED = [(line, told) for line, rows in [
 VERSIONED = [["--version"], ["--version", "map"], ["--version", "--help"]]
 
 # DISKS goes with tables alone.
-DISKLESS = ["map table a.table", "map lvm vg0.backup a.disks", "table table a.table", "map concise a.concise",
+DISKLESS = ["map table a.table", "map lvm vg0.backup a.disks", "table table a.table", "map concise a.concise", "map --status table a.table",
             "concise lvm vg0.backup a.disks", "map images a.paths a.disks", "map images a.paths --paths b.paths",
             "check images a.paths a.disks"]
 
@@ -87,28 +84,15 @@ STATUS = [["map", "table", "TABLE", "DISKS", "--status"],
 def test_words(tally, program):
     paths = {"TABLE": program.file("table", VOLUME), "DISKS": program.file("disks", DISKS)}
     real = lambda words: [paths.get(it, it) for it in words]
-    for words in HELP:
-        got = program.run(words)
-        name = "help by %s" % words
-        is_help = got.status == 0 and got.out.find(b"Usage:") >= 0 and got.err == b""
-        tally.holds(name, is_help, "status %s, on standard error %r" % (got.status, got.err))
     for words in REFUSED:
         got = program.run(real(words), given="R vol 0 1\n")
         is_refused = got.status == 2 and got.out == b"" and got.err.endswith(b"\n")
         tally.holds("words %s" % words, is_refused, "status %s, on standard output %r, on standard error %r"
                     % (got.status, got.out, got.err))
-    for words, tip in (["tabel", "lvm", "TABLE"], b"'table'"), (["table", "lvn", "TABLE"], b"'lvm'"):
-        tally.tells("a tip for %s" % words, program.run(real(words)), 2, err=tip)
     tally.same("no DISKS", program.run(real(["map", "table", "TABLE"])), 2, "", "dmremap: words: disks\n")
-    tally.same("no DISKS, before FILE is opened", program.run(["map", "table", "missing"]), 2, "",
-               "dmremap: words: disks\n")
-    for files in (["TABLE", "DISKS"], ["missing", "missing"]):
-        tally.same("DISKS beside metadata, %s" % files, program.run(real(["map", "lvm", *files])), 2, "",
-                   "dmremap: words: disks\n")
+    tally.same("DISKS beside metadata", program.run(real(["map", "lvm", "TABLE", "DISKS"])), 2, "", "dmremap: words: disks\n")
     for words in STATUS:
         tally.same("words %s" % words, program.run(real(words), given="R vol 0 1\n"), 0, "1 R sda 50 1\n")
-    tally.same("no DISKS beside --status", program.run(real(["map", "--status", "table", "TABLE"])), 2, "",
-               "dmremap: words: disks\n")
     tally.same("words after --", program.run(real(["map", "table", "--", "TABLE", "DISKS"]), given="R vol 0 1\n"),
                0, "1 R sda 50 1\n")
 
@@ -131,7 +115,7 @@ def test_told(tally, program):
 
 def test_unprinted(tally, program):
     """Help and the version on an output that takes nothing, and words that are refused on such a standard error."""
-    for words in HELP + VERSIONED:
+    for words in VERSIONED + [line.split() for line in dict(HELPED)]:
         name = "an output that is %%s, by %s" % words
         tally.same(name % "full", program.run(words, stdout=FULL_OUTPUT), 5, "", "dmremap: output: write\n")
         tally.same(name % "closed", program.run(words, before=lambda: os.close(1)), 5, "", "dmremap: output: write\n")

@@ -9,8 +9,6 @@ UUID = "9f0ddaf8-7f12-4f09-98b6-4e4d01cf8b28"
 # The bytes of a header of version 2, of which there are two, one after the other.
 SIZE = 1 << 14
 SEGMENT = '"%d":{"type":"crypt","offset":"%d","size":"%s","iv_tweak":"0","encryption":"aes-xts-plain64","sector_size":512}'
-KEYSLOT = ('"%d":{"type":"luks2","key_size":64,"area":{"type":"raw","offset":"%d","size":"%d","encryption":"aes-xts-plain64","key_size":64},'
-           '"kdf":{"type":"pbkdf2","salt":"c2FsdA==","hash":"sha256","iterations":1000},"af":{"type":"luks1","hash":"sha256","stripes":4000}}')
 # Where its data begins.
 DATA = 131072
 
@@ -34,14 +32,12 @@ def version_2(size="dynamic", segments=1, json=None, second=None, sequences=(3, 
     return header(b"LUKS", 0, first, sequences[0]) + header(b"SKUL", SIZE, text_of(size, segments, second) if second is not None else first, sequences[1])
 
 
-def text_of(size="dynamic", segments=1, data=DATA, keys=()):
-    """The text of a header of version 2. Each key is the byte where its area begins, and the bytes of that."""
-    numbers = ['"%d"' % number for number in range(max(segments, len(keys)))]
-    digest = '"0":{"type":"pbkdf2","keyslots":[%s],"segments":[%s]}' % (",".join(numbers[:len(keys)]), ",".join(numbers[:segments]))
-    slots = ",".join(KEYSLOT % (number, *area) for number, area in enumerate(keys))
+def text_of(size="dynamic", segments=1, data=DATA):
+    """The text of a header of version 2."""
+    digest = '"0":{"type":"pbkdf2","keyslots":[],"segments":[%s]}' % ",".join('"%d"' % number for number in range(segments))
     parts = ",".join(SEGMENT % (number, data, size) for number in range(segments))
-    return ('{"keyslots":{%s},"tokens":{},"segments":{%s},"digests":{%s},"config":{"json_size":"%d","keyslots_size":"32768"}}' % (
-        slots, parts, digest, SIZE - 4096)).encode()
+    return ('{"keyslots":{},"tokens":{},"segments":{%s},"digests":{%s},"config":{"json_size":"%d","keyslots_size":"32768"}}' % (
+        parts, digest, SIZE - 4096)).encode()
 
 
 def header(magic, place, text, sequence=3):
@@ -51,8 +47,3 @@ def header(magic, place, text, sequence=3):
     head = (fields.ljust(256, b"\0") + struct.pack(">Q", place)).ljust(4096, b"\0")
     area = text.ljust(SIZE - 4096, b"\0")
     return head[:448] + hashlib.sha256(head + area).digest().ljust(64, b"\0") + head[512:] + area
-
-
-def flipped(content, place):
-    """The same with a bit flipped."""
-    return content[:place] + bytes([content[place] ^ 1]) + content[place + 1:]

@@ -6,17 +6,11 @@ import os
 import random
 
 import physical_volumes
+from physical_volumes import damaged
 from piles import A, B, DATA, EXTENT, HIDDEN, SECTOR, dashed, disk, extents_of, identity, linear, named, pile, segment, text, volume
 
 FIRST = HEADER = physical_volumes.FIRST
 LABEL = SECTOR
-
-
-def damaged(image, *runs):
-    made = bytearray(image)
-    for begin, count in runs:
-        made[begin:begin + count] = bytes(byte ^ 0x55 for byte in made[begin:begin + count])
-    return bytes(made)
 
 
 def home(first, name="home", letter="h", on="pv0"):
@@ -41,14 +35,15 @@ def test_forks(tally, pile):
     mine = (("mine", extents_of(A, 50, 5)), ("yours", extents_of(B, 20, 5)))
     for hurt in (0, 1):
         left, gone = mine[1 - hurt], mine[hurt]
-        pile.put(("one", "two")[hurt], damaged(sound[hurt], (LABEL + 40, 1)))
+        pile.put(("one", "two")[hurt], damaged(sound[hurt], LABEL + 40))
         pile.refuses(tally, "a fork with a damaged label, what both have", "vg0/home", "both sides have a volume of this name", "one", "two")
         for volume_name, content in mine:
             pile.holds(tally, "a fork with a damaged label, what one side has", "vg0/" + volume_name, content)
-        for what, runs in (("header", [(HEADER, SECTOR)]), ("label and header", [(LABEL + 40, 1), (HEADER + 8, 1)]),
-                           ("header and current text", [(HEADER, SECTOR), (sound[hurt].rindex(b"vg0 {\nid"), 400)])):
+        header, current = range(HEADER, HEADER + SECTOR), sound[hurt].rindex(b"vg0 {\nid")
+        for what, places in (("header", header), ("label and header", [LABEL + 40, HEADER + 8]),
+                             ("header and current text", [*header, *range(current, current + 400)])):
             name = "a fork with a damaged %s of disk %d" % (what, hurt)
-            pile.put(("one", "two")[hurt], damaged(sound[hurt], *runs))
+            pile.put(("one", "two")[hurt], damaged(sound[hurt], *places))
             for order in (("one", "two"), ("two", "one")):
                 group = named([group for group in pile.scan(*order)["groups"] if group["state"] != "removed"], "name", "vg0")
                 is_told = any(note.startswith(("one", "two")[hurt]) for note in group.get("notes", []))
@@ -71,8 +66,8 @@ def test_members(tally, pile):
     late = extents_of(B, 20, 5)
     for name, kept, state, is_given in (("the current text", texts[:5], "complete", True), ("older texts", texts[:4], "missing", False), ("a later text", texts[:6], "missing", False),
                                         ("no text", [], "missing", False)):
-        content = disk("b", B, *kept) if kept else damaged(disk("b", B, texts[0]), (HEADER + SECTOR, 4096))
-        pile.put("two", damaged(content, (HEADER, SECTOR)))
+        content = disk("b", B, *kept) if kept else damaged(disk("b", B, texts[0]), *range(HEADER + SECTOR, HEADER + SECTOR + 4096))
+        pile.put("two", damaged(content, *range(HEADER, HEADER + SECTOR)))
         group = named(pile.scan()["groups"], "name", "vg0")
         tally.holds("a disk whose ring has " + name, (group.get("state"), any("two" in note for note in group["notes"])) in ((state, True), ("forked", True)), group)
         if is_given:
@@ -114,21 +109,21 @@ def test_unlabelled(tally, pile):
     sound = disk("a", A, text("vg0", "g", 3, "a", home(3), home(20, "gone", "n")), known)
     longer = known.replace(b"dev_size = %d" % (DATA + 64 * EXTENT), b"dev_size = %d" % (DATA + 64 * EXTENT + 16))
     at_end = bytes(DATA * SECTOR) + A + physical_volumes.area(longer, SECTOR, start=len(sound), size=16 * SECTOR)
-    for name, image in (("gone", bytes(FIRST) + sound[FIRST:]), ("damaged", damaged(sound, (LABEL + 40, 1))), ("gone with the first area", at_end)):
+    for name, image in (("gone", bytes(FIRST) + sound[FIRST:]), ("damaged", damaged(sound, LABEL + 40)), ("gone with the first area", at_end)):
         pile.put("one", image)
         pile.holds(tally, "a disk whose label is " + name, "vg0/home", extents_of(A, 3, 5))
     two = text("vg0", "g", 4, "ab", home(3))
     other = disk("b", B, two)
-    pile.put("one", damaged(disk("a", A, two), (LABEL + 150, 1)))
+    pile.put("one", damaged(disk("a", A, two), LABEL + 150))
     pile.put("two", other)
     pile.holds(tally, "a disk whose damaged label has its id", "vg0/home", extents_of(A, 3, 5))
     for name, images, why in (
-            ("beside another of its group", {"one": damaged(disk("a", A, two), (LABEL + 40, 1)), "two": other}, "isn't in these images, unless one is its disk"),
-            ("of a group of two, alone", {"one": damaged(disk("a", A, two), (LABEL + 40, 1))}, "one: the label in sector 1 has a wrong sum: `metadata` prints a text of vg0 (seqno 4)"),
+            ("beside another of its group", {"one": damaged(disk("a", A, two), LABEL + 40), "two": other}, "isn't in these images, unless one is its disk"),
+            ("of a group of two, alone", {"one": damaged(disk("a", A, two), LABEL + 40)}, "one: the label in sector 1 has a wrong sum: `metadata` prints a text of vg0 (seqno 4)"),
             ("under other bytes", {"one": b"other" * 100 + sound[500:512] + bytes(SECTOR) + sound[2 * SECTOR:]}, "one: there is no label in the first four sectors: `metadata` prints"),
-            ("of a longer disk", {"one": damaged(sound[:-SECTOR], (LABEL + 40, 1))}, "one: the label in sector 1 has a wrong sum: `metadata` prints"),
-            ("beside a copy of it", {"one": damaged(sound, (LABEL + 40, 1)), "two": sound}, "one and two both are the physical volume"),
-            ("that is a copy of one of two disks", {"one": disk("a", A, two), "two": other, "three": damaged(disk("a", A, two), (LABEL + 40, 1))}, "three is of this group, too")):
+            ("of a longer disk", {"one": damaged(sound[:-SECTOR], LABEL + 40)}, "one: the label in sector 1 has a wrong sum: `metadata` prints"),
+            ("beside a copy of it", {"one": damaged(sound, LABEL + 40), "two": sound}, "one and two both are the physical volume"),
+            ("that is a copy of one of two disks", {"one": disk("a", A, two), "two": other, "three": damaged(disk("a", A, two), LABEL + 40)}, "three is of this group, too")):
         pile.hold(images)
         pile.refuses(tally, "a disk without a label, " + name, "vg0/home", why)
 

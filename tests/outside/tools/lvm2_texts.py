@@ -11,14 +11,13 @@ import re
 
 import tool_calls
 from dmremap_tools.model.config_text import Document
-from harness import FULL_OUTPUT, run
 from lvm2_rows import BARE, GROUP, REFUSED, ROWS, other
 from tool_calls import read
+from tool_streams import mutated
 
 PLAIN = ("vg0.backup", "vg0-snapshot.backup")
 SEEDS = 20
 DAMAGES, MEMORY = 60, 200 << 20
-USAGE = "usage: dmremap-tools lvm2-text [-h] [--program PROGRAM] TEXT\ndmremap-tools lvm2-text: "
 
 
 def test_rows(tally, program, top):
@@ -119,7 +118,7 @@ def test_damaged(tally, program, top):
         texts.append(group.split(b"-- ")[1].partition(b"\n")[2])
     copies = 0
     for number in range(DAMAGES):
-        text = damaged(dice.choice(texts), dice)
+        text = mutated(dice.choice(texts), dice)
         got = copied(program, top, text)
         said = got.err.decode("utf-8", "replace")
         if got.status == 0:
@@ -131,52 +130,14 @@ def test_damaged(tally, program, top):
     tally.holds("copies of damaged texts", DAMAGES // 5 < copies < DAMAGES, "there are %d" % copies)
 
 
-def damaged(text, dice):
-    """A text of which some bytes, numbers or lines are others, gone, or there twice."""
-    text = bytearray(text)
-    for _ in range(dice.choice((1, 1, 2, 4))):
-        at, kind = dice.randrange(len(text)), dice.randrange(6)
-        if kind == 0:
-            text[at] ^= 1 << dice.randrange(8)
-        elif kind == 1:
-            text[at:at + dice.choice((1, 4, 40))] = dice.choice((b"", b'"', b"{", b"}", b"]", b"#", b"\xff"))
-        elif kind < 4:
-            begin, end = dice.choice([it.span() for it in re.finditer(rb"[0-9]+", bytes(text))])
-            text[begin:end] = dice.choice((b"0", b"1", b"%d" % (int(text[begin:end]) + 1), b"99999999999", b"9223372036854775807"))
-        else:
-            lines = bytes(text).split(b"\n")
-            first, count = dice.randrange(len(lines)), dice.choice((1, 2, 5))
-            lines[first:first + count] = lines[first:first + count] * 2 if kind == 4 else []
-            text = bytearray(b"\n".join(lines)) or bytearray(b"0")
-    return bytes(text)
-
-
 def test_asked(tally, program, top):
     """The program is asked: what it says decides, and there is no copy where it can't be."""
-    path = program.file("lvm2/refuses", '#!/bin/sh\necho "dmremap: source: field at 3" >&2\nexit 1\n')
+    path = program.file("lvm2/refuses", '#!/bin/sh\n[ "$1" = map ] || exec %s "$@"\necho "dmremap: source: field at 3" >&2\nexit 1\n' % program.path)
     os.chmod(path, 0o755)
     tally.same("a copy of no program", copied(program, top, BARE, ["--program", "nowhere/dmremap"]), 1, "",
                "dmremap-tools lvm2-text: nowhere/dmremap: No such file or directory\n")
     got = copied(program, top, BARE, ["--program", path])
     tally.tells("a copy that the program refuses", got, 1, "", "(dmremap: source: field at 3)")
-
-
-def test_words(tally, program, top):
-    """Words, and texts that can't be read."""
-    def copy(*words, **how):
-        return run([os.path.join(top, tool_calls.TOOL), "lvm2-text", "--program", program.path, *words], **how)
-
-    for words in ([], ["text", "text"], ["-x"]):
-        got = copy(*words)
-        tally.holds("the words %s" % words, got.status == 2 and got.out == b"" and got.err.decode().startswith(USAGE),
-                    "status %s, %r" % (got.status, got.err))
-    for name, message in (("nowhere", "No such file or directory"), (".", "Is a directory")):
-        tally.same("the text of " + name, copy(name), 1, "", "dmremap-tools lvm2-text: %s: %s\n" % (name, message))
-    got = copy("-", given=BARE)
-    tally.same("a text of a pipe", got, 0, got.out)
-    tally.holds("the copy of a text of a pipe", parts_of(got.out) == parts_of(BARE.encode()), got.out)
-    got = copy(program.file("lvm2/text", BARE), stdout=FULL_OUTPUT)
-    tally.same("a copy on a full disk", got, 5, "", "dmremap-tools lvm2-text: standard output: No space left on device\n")
 
 
 def test_large(tally, program, top):

@@ -466,13 +466,9 @@ def test_areas(tally, pile):
 
 
 def test_saving(tally, pile):
-    """A file that is there, that is an image, or in no folder; a map by which a run goes on; an image that is called as a format."""
+    """A file that is an image; a map by which a run goes on; an image that is called as a format."""
     pile.put("one", disk("a", A, text("vg0", "g", 4, "a", volume("home", "h", linear(0, 5, ("pv0", 3))))))
     wanted = extents_of(A, 3, 5)
-    pile.put("out", b"mine")
-    got = pile.call("save", "vg0/home", "out", "one")
-    tally.holds("a file that is there", got.status == 1 and pile.read("out") == b"mine" and b"it is there already: give another name, or remove it first" in got.err, got.err)
-    pile.remove("out")
     size = len(wanted)
     before = pile.read("one")
     for name, words in (("as OUT", ["one"]), ("as MAP", ["out", "--resume", "one"])):
@@ -485,10 +481,7 @@ def test_saving(tally, pile):
     pile.put("map", own + b"0x0 ?\n0x0 0x1000 ?\n0x1000 0x1000 +\n0x2000 0x%x ?\n" % (size - 0x2000))
     got = pile.call("save", "vg0/home", "out", "one", "--resume", "map")
     tally.holds("a run that goes on", got.status == 0 and pile.read("out") == wanted, got.err)
-    pile.remove("out")
-    got = pile.call("save", "vg0/home", "out", "one", "--resume", "map")
-    tally.tells("a map without its file", got, 1, err="the map says that it was begun, and it isn't there")
-    pile.remove("map")
+    pile.remove("out", "map")
     halves = text("vg1", "v", 4, "cd", volume("both", "h", linear(0, 5, ("pv0", 3)), linear(5, 5, ("pv1", 3))))
     pile.put("c", disk("c", A, halves))
     pile.put("d", disk("d", A, halves))
@@ -500,13 +493,17 @@ def test_saving(tally, pile):
     got = pile.call("save", "vg0/home", "out", "one", "--map", "map")
     is_kept = not any(os.path.exists(os.path.join(pile.folder, name)) for name in ("out", "map", "one=map"))
     tally.holds("a map of no image", got.status == 2 and b"give the one that save writes as --resume" in got.err and is_kept, got.err)
-    got = pile.call("save", "vg0/home", "no/where", "one")
-    tally.holds("a file in no folder", got.status == 5, got.err)
     os.rename(os.path.join(pile.folder, "one"), os.path.join(pile.folder, "table"))
     pile.holds(tally, "an image that is called as a format", "vg0/home", wanted, "./table")
     got = pile.call("save", "vg0/home", "out", "./table", "--fresh")
     tally.tells("a word of the other form", got, 2, err="--fresh is for FORMAT FILE")
     tally.tells("an image that isn't there", pile.call("scan", "nowhere"), 1, err="nowhere: No such file or directory")
+    once = pile.program.file("once", '#!/bin/sh\n[ "$1" = map ] || exec {0} "$@"\nhead -n 1 | {0} "$@"\n'.format(pile.program.path))
+    os.chmod(once, 0o755)
+    pile.put("one", disk("a", A, text("vg0", "g", 4, "a", *(volume(name, name[0], linear(0, 5, ("pv0", 3)), segment(5, 1, "zero")) for name in ("home", "next")))))
+    tally.tells("a dmremap that answers once", pile.call("scan", "--program", once, "one"), 0, "vg0/next", "")
+    pile.put("short", bytes(74))
+    tally.same("an image that is too short", pile.call("scan", "short"), 0, "short: foreign: it is too short: it has 74 bytes\n")
 
 
 def test_files(tally, pile):

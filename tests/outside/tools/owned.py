@@ -1,7 +1,6 @@
 """Which layer owns which bytes of a pile of images: members of arrays, tables, labels and containers that say so of the same
 ones, what is left over of earlier ones, and signatures that nothing follows. Neither the order nor the names of images decide."""
 
-import hashlib
 import os
 import random
 import shutil
@@ -259,7 +258,7 @@ def test_containers(tally, pile):
     for label, content, version, start, sectors, why in (
             ("version 1", containers.version_1(), 1, 2048, None, None), ("version 2", whole, 2, 256, None, None),
             ("version 2 of a fixed size", containers.version_2(size="4096"), 2, 256, 8, None), ("a newer second header", containers.version_2(second=262144, sequences=(3, 4)), 2, 512, None, None),
-            ("a second header alone", bytes(4096) + whole[4096:], 2, None, None, gone), ("two headers that are damaged", containers.flipped(containers.flipped(whole, 300), containers.SIZE + 300), 2, None, None, bad),
+            ("a second header alone", bytes(4096) + whole[4096:], 2, None, None, gone), ("two headers that are damaged", damaged(whole, 300, containers.SIZE + 300), 2, None, None, bad),
             ("one that is encrypted anew", two, 2, None, None, bad), ("no segments", containers.version_2(json=b"{}"), 2, None, None, bad),
             ("data elsewhere", containers.version_2(json=containers.text_of(data=0)), 2, 0, None, None)):
         pile.put("sda", content + room[len(content):])
@@ -339,30 +338,3 @@ def test_orders(tally, pile):
     for check in (models.test_arrays, models.test_nested, models.test_lost_superblocks, models.test_legs):
         shuffled = empty_pile(tally, "orders")
         check(tally, ShuffledPile(tally, shuffled.program, shuffled.top, shuffled.folder))
-
-
-def test_machines(tally, pile):
-    """The machines in the folder that DMREMAP_IMAGES names, if it does: each volume, in two orders under two names."""
-    top = os.environ.get("DMREMAP_IMAGES")
-    if not top:
-        tally.skip("machines in two orders", "DMREMAP_IMAGES names no folder of machines")
-        return
-    for machine in sorted(name for name in os.listdir(top) if os.path.isdir(os.path.join(top, name))):
-        outcomes = []
-        for turn in range(2):
-            folder = os.path.join(pile.folder, "out.%d" % turn)
-            os.makedirs(folder)
-            names = sorted(os.listdir(os.path.join(top, machine)), reverse=bool(turn))
-            images = [os.path.join(folder, "%d%s" % (place, "y" * turn)) for place in range(len(names))]
-            for name, image in zip(names, images):
-                os.symlink(os.path.join(top, machine, name), image)
-            found = pile.scan(*images)
-            volumes = {group["id"] + "/" + row["name"] for group in found["groups"] for row in group["volumes"]}
-            told = sorted((row["id"], row["state"], row["seqno"]) for row in found["groups"])
-            told += sorted((row["id"], row["level"], row["missing"], len(row["members"]), len(row["stale"])) for row in found["arrays"])
-            for name in sorted(volumes):
-                got, saved = pile.save(name, *images)
-                told.append((name, got.status, saved and hashlib.sha256(saved).hexdigest()))
-            outcomes.append(told)
-            shutil.rmtree(folder)
-        tally.holds("%s in two orders" % machine, outcomes[0] == outcomes[1], [each for each in zip(*outcomes) if each[0] != each[1]])

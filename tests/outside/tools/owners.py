@@ -109,7 +109,7 @@ HELD = [
     ("a member of an array with parity", PARITY, ["disk 0 16 = superblock of md:%s, with what it keeps free" % ARRAY, "disk 17 1 = md:%s 1 = label of LVM" % ARRAY,
                                                   "disk 48 16 = parity of md:" + ARRAY]),
     *([("a container", containers.version_1() + SWAP, ["disk 0 2048 = LUKS1 header", "disk 2048 64 = LUKS1 data, encrypted"]),
-       ("a container whose header is damaged", containers.flipped(containers.version_2()[:1 << 14], 300), ["disk 0 32 = LUKS2 container: " + DAMAGED]),
+       ("a container whose header is damaged", damaged(containers.version_2()[:1 << 14], 300), ["disk 0 32 = LUKS2 container: " + DAMAGED]),
        ("a container whose data is elsewhere", containers.version_2(json=containers.text_of(data=0)) + bytes(1 << 16), ["disk 0 128 = LUKS2 header"])]
       if containers.is_read() else []),
     ("nothing that is known", b"x" * (64 << 9), ["disk 0 64 = unknown: nothing is found in it"]),

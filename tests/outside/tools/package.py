@@ -1,14 +1,12 @@
 """The package of dmremap-tools: each folder imports those alone that its docstring draws for it, all of them above it there, so
-that there is no ring; and an option that several commands have takes the same in each."""
+that there is no ring."""
 
 import ast
 import glob
-import importlib
 import os
 import re
 
 import dmremap_tools
-from dmremap_tools import commands, main
 from harness import run, text_of
 
 PACKAGE = "dmremap_tools"
@@ -43,19 +41,6 @@ def imported_by(folder, folders):
                 continue
             found |= {it.split(".")[1] for it in modules if it.startswith(PACKAGE + ".")}
     return found & set(folders) - {os.path.basename(folder)}
-
-
-def test_options(tally):
-    taken = {}
-    for command in commands.COMMANDS:
-        module = importlib.import_module("%s.%s" % (PACKAGE, command.module))
-        for action in main.parser_of(command, module, command.name)._actions:
-            value = action.metavar if action.nargs != 0 else None
-            for option in action.option_strings:
-                # Of MEMBER=SECTORS it is the latter that is taken.
-                taken.setdefault(option, set()).add(value.rpartition("=")[2] if isinstance(value, str) else value)
-    for option, values in taken.items():
-        tally.holds("what %s takes" % option, len(values) == 1, "it takes %s" % values)
 
 
 def test_columns(tally, top):

@@ -348,6 +348,9 @@ PARITY_KINDS = {
 class Group:
     """A volume group: its newest text, and the physical volumes that are here by their ids."""
 
+    # The most sectors of an array in which nothing can be read, so that it may be a disk that isn't found.
+    most_dark = 0
+
     def __init__(self, text, physical, is_careful, has_dark):
         self.is_careful, self.has_dark = is_careful, has_dark
         self.name, self.text = next((name, body) for name, body in text.items() if isinstance(body, dict))
@@ -368,7 +371,7 @@ class Group:
         """What a volume reads as: a snapshot through its store, an origin that is merged into as that snapshot."""
         # A disk without which the group went on, and in which nothing can be read, may have another state of it.
         gone = [record for record in self.text["physical_volumes"].values() if "MISSING" in record.get("flags", ())]
-        if self.has_dark and any(record["id"].replace("-", "") not in self.physical for record in gone):
+        if (self.has_dark or self.most_dark) and any(record["id"].replace("-", "") not in self.physical for record in gone):
             raise Gap("a disk may have another state of the group")
         for record in self.records("cow_store", name):
             return self.snapshot(self.origin(record["origin"]), name, record["extent_count"] * self.extent, record["origin"])
@@ -453,7 +456,8 @@ class Group:
         legs = [None if old else leg_of(self.volume(name)) for name, old in zip(metas, is_old)]
         # A leg whose superblock isn't here may be newer. That its disk is here is said by the disk, or may be.
         lost = [role for role, leg in enumerate(legs) if leg is None and not is_old[role]]
-        is_here = lambda record: self.has_dark or record["id"].replace("-", "") in self.physical
+        may_be = lambda record: self.has_dark or record["dev_size"] <= self.most_dark
+        is_here = lambda record: may_be(record) or record["id"].replace("-", "") in self.physical
         is_dark = any(all(map(is_here, self.disks_of(metas[role]))) for role in lost)
         newest = max(filter(None, legs), key=lambda leg: leg.events, default=None)
         if legs and (not newest or self.is_careful and newest.is_dirty(0) is None):
@@ -662,6 +666,7 @@ class Machine:
         for each in groups.values():
             group = Group(max(each, key=lambda row: row[0])[1], physical, is_careful, bool(dark))
             self.groups[group.name] = group
+            group.most_dark = max((array.count for array in self.arrays.values() if is_dark(array)), default=0)
 
     def device(self, name):
         """An array as md:NAME, or a volume as GROUP/VOLUME; None if it isn't here."""

@@ -14,6 +14,7 @@ import time
 import physical_volumes
 import tool_calls
 from tool_calls import read
+from tool_streams import mutated
 
 SECTOR = 512
 
@@ -379,7 +380,6 @@ def test_ends(tally, program, top):
 
 
 TRIES = 150
-BITS = [b"0", b"18446744073709551615", b"9" * 40, b"-1", b"\0", b"\xff", b"\n", b" ", b"R", b"error", b"size", b"+", b"0x", b"?"]
 
 
 def test_mutations(tally, program, top):
@@ -399,11 +399,3 @@ def test_mutations(tally, program, top):
         got = tool_calls.call(top, [*words, *more], folder=os.path.dirname(out))
         is_so = got.status in (0, 1, 4) and (not number % 2 or os.path.exists(out) == (got.status == 0))
         tally.holds("save with changed %s" % changed, is_so, "status %s, %r" % (got.status, got.err[-300:]))
-
-
-def mutated(text, dice):
-    """A text with a few random changes."""
-    for _ in range(dice.randrange(1, 4)):
-        at = dice.randrange(len(text) + 1)
-        text = text[:at] + dice.choice(BITS + [b""]) + text[at + dice.randrange(4):]
-    return text

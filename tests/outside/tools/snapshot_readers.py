@@ -125,22 +125,14 @@ NOT_HERE = "the store of s1: a disk that its header or its list lies on isn't he
 
 
 def test_not_read(case):
-    """Snapshots that can't be read: nothing is made, and what is said leads on."""
-    os.mkfifo(os.path.join(case.folder, "pipe"))
+    """Snapshots that `save` can't read, nor `layout` (`used`): no file is made, and what is said leads on."""
     whole = bytes(case.disks["d"])
     case.put("invalid.img", whole[:64 * SECTOR] + store([], chunks=1, valid=0) + whole[(64 + CHUNK) * SECTOR:])
-    for name in "invalid.img", "pipe", "/dev/zero":
-        case.put(os.path.basename(name) + ".paths", "d %s\ne e.img\n" % name)
-    case.put("n", BELOW + SNAPSHOTS[0].replace(" P ", " N "))
-    for name, words, source, why in (
-            ("one that is invalid", ["--paths", "invalid.img.paths"], SOURCE, INVALID), ("one whose disk isn't here", [], SOURCE, NOT_HERE),
-            ("one whose disk is a pipe", ["--paths", "pipe.paths"], SOURCE, "pipe: neither a file nor a disk: give an image of the disk"),
-            ("one whose disk is a device of zeros", ["--paths", "zero.paths"], SOURCE, "/dev/zero: neither a file nor a disk: give an image of the disk"),
-            ("one that isn't persistent", PATHS, ["table", "n", "disks"], "the store of s1: it isn't persistent, so no disk says what is in it; --fresh takes it as new")):
-        for command, more in (("save", ["s1", "out", *source]), ("layout", ["--device", "s1", *source])):
-            got = case.call(command, *words, *more)
-            case.tally.same("%s of %s" % (command, name), got, 1, "", "%s %s: %s\n" % (TOOL, command, why))
-            case.tally.holds("what %s leaves of %s" % (command, name), case.read("out") is None, "it is there")
+    case.put("invalid", "d invalid.img\ne e.img\n")
+    for name, words, why in (("one that is invalid", ["--paths", "invalid"], INVALID), ("one whose disk isn't here", [], NOT_HERE)):
+        got = case.call("save", *words, "s1", "out", *SOURCE)
+        case.tally.same("saving " + name, got, 1, "", "%s save: %s\n" % (TOOL, why))
+        case.tally.holds("what that leaves of " + name, case.read("out") is None, "it is there")
 
 
 def remove(case, name):

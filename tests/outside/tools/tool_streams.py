@@ -122,13 +122,17 @@ def check_ends(tally, top, folder, command, given):
 
 
 def check_cuts(tally, top, folder, command, words):
-    """Inputs that end anywhere: an answer, or a refusal in words."""
+    """Inputs that end anywhere: an answer, or a refusal in words. One that isn't there, and a folder, are refused by name."""
     dice = random.Random(command.name)
     for place, name in inputs_of(words, folder):
         content = read(os.path.join(folder, name))
         for length in sorted({0, *(dice.randrange(len(content)) for _ in range(CUTS))}):
             why = fault_of(command, with_input(top, folder, [command.name, *words], place + 1, content[:length]))
             tally.holds("%s with %s cut at %d" % (command.name, name, length), not why, why)
+        for path in "nowhere", ".":
+            got = call(top, [command.name, *words[:place], path, *words[place + 1:]], folder=folder)
+            is_told = got.status == REFUSED and got.err.decode().splitlines()[-1].startswith("%s %s: %s: " % (TOOL, command.name, path))
+            tally.holds("%s with %s for %s" % (command.name, path, name), is_told and not fault_of(command, got), got.err)
 
 
 def check_standard_input(tally, top, folder, command, called):
@@ -405,6 +409,8 @@ def test_killed(tally, top, folder):
         tally.holds("a save to " + name, got.status == (2 if name == "-" else 0) and os.path.exists(os.path.join(folder, "-")) == (name != "-"),
                     "status %s, %r" % (got.status, got.err))
         tally.holds("what is said of it", name != "-" or got.err.decode().endswith("\n%s save: %s\n" % (TOOL, NO_FILE)), got.err)
+    got = call(top, ["layout", "--program", "/bin/true", *stack], folder=folder)
+    tally.tells("another program", got, 2, "", TOOL + " layout: argument --program: it isn't dmremap, by its --version: /bin/true\n")
     got = call(top, ["layout", "--program", "./dmremap", "table", "-", "-"], folder=folder)
     tally.same("tables and disks from one input", got, 2, "", TOOL + " layout: standard input can't be two files: give the path of one\n")
 

@@ -6,10 +6,7 @@ import os
 import random
 
 import tool_streams
-import walks
 from harness import run, text_of
-from lvm_texts import dashed
-from physical_volumes import gpt, volume
 from store_lists import SECTOR, store
 from tool_calls import TOOL, call
 
@@ -159,22 +156,6 @@ def test_places(case):
     extents, told = "0 56 /dev/sda1 2048\n56 8 /dev/sda1 206872\n64 7944 /dev/sda1 2112\n8008 8 /dev/sda1 206864\n", "vg0-snap: its store has 2 chunks\n"
     got = case.call(["--paths", "group.paths"], ("lvm", "group"), "vg0-snap")
     case.tally.holds("used: a group", got.status == 0 and got.out.decode().startswith(extents) and got.err.decode() == told, "%r, %r" % (got.out[:200], got.err))
-    # The same on a partition of a whole disk, whose label has the id of the physical volume.
-    with open(os.path.join(case.folder, "group"), encoding="ascii") as it:
-        case.put("group.ids", it.read().replace("    pv0 {\n", '    pv0 {\n      id = "%s"\n' % dashed(walks.IDS[0])))
-    case.put("whole.img", gpt((64, 1050687)).ljust(64 * SECTOR, b"\0") + volume(identity=walks.IDS[0].encode()))
-    with open(os.path.join(case.folder, "whole.img"), "r+b") as it:
-        it.seek((64 + 206848) * SECTOR)
-        it.write(store([(1001, 2), (7, 3)], chunks=2048))
-    case.put("group.paths", "/dev/sda1 whole.img\n")
-    got = case.call(["--paths", "group.paths"], ("lvm", "group.ids"), "vg0-snap")
-    case.tally.holds("used: a group on a partition", got.status == 0 and got.out.decode().startswith(extents) and got.err.decode() == told, "%r, %r" % (got.out[:200], got.err))
-    case.refused("a group without ids on a partition", "whole.img: the image of a whole disk (GPT), and /dev/sda1 has 1050624 sectors: give the "
-                 "partition that it is, as IMAGE?offset=BYTES&length=BYTES", ["--paths", "group.paths"], ("lvm", "group"), "vg0-snap")
-    case.put("cow.img", gpt((64, 223)).ljust(64 * SECTOR, b"\0") + content)
-    case.put("whole.paths", "cow cow.img\n")
-    case.refused("a whole disk for a partition", "cow.img: the image of a whole disk (GPT), and cow has 160 sectors: give the partition "
-                 "that it is, as IMAGE?offset=BYTES&length=BYTES", ["--paths", "whole.paths"])
     case.put("hole.img", store(PAIRS)[:8 * SECTOR])
     case.put("hole", "c: 0 8 linear z 0\nc: 8 152 linear z 8\ns: 0 64 snapshot base /dev/mapper/c P 8\n")
     case.put("hole.disks", "base 64\nz 160\n")

@@ -9,7 +9,7 @@ import lvm_texts
 import tool_calls
 from harness import run
 from lvm_texts import dashed
-from physical_volumes import FIRST, SECTOR, TIME, area, gpt, md_member, patched, volume, with_backup
+from physical_volumes import FIRST, SECTOR, TIME, area, gpt, patched, volume, with_backup
 from tool_calls import read
 
 # Sectors of an extent, those before the first, and the bytes of a metadata area, which ends there.
@@ -137,29 +137,16 @@ def check_walk(tally, program, top, dice):
     tool("save", "vg/home", "saved", *NAMES)
     wanted = patched(content, *((it - BEFORE + linear, bytes(2 * SECTOR)) for it in gone), unit=SECTOR)
     tally.holds("a volume that was saved", read(os.path.join(folder, "saved")) == wanted, "it is another")
-    # By the ids in the labels, a whole disk will do for its partition, and another's will not.
+    # By the ids in the labels, a whole disk will do for its partition.
     program.file("walk/paths", "".join("%s %s\n" % it for it in zip(HINTS, NAMES)))
     tool("save", "--paths", "paths", "vg-home", "again", "lvm", "vg.backup")
     tally.holds("a volume out of its group", read(os.path.join(folder, "again")) == wanted, "it is another")
-    # Nor will a member of an array, unless it has all of it.
-    for level, status, told in ((1, 0, ""),
-                                (5, 1, "dmremap-tools save: member: a member of an md array that isn't raid1, so that no member has all of a physical volume: "
-                                       "give the images of all members to `save GROUP/VOLUME OUT IMAGE..`, which puts it together\n")):
-        program.file("walk/member", md_member(b, 16, 4096, level))
-        program.file("walk/members", "".join("%s %s\n" % it for it in zip(HINTS[1:], ("member", "c.img"))) + "%s %s\n" % (HINTS[0], "a.part"))
-        program.file("walk/a.part", a[PARTITION * SECTOR:])
-        got = tool_calls.call(top, ["save", "--program", program.path, "--paths", "members", "vg-home", "of%d" % level, "lvm", "vg.backup"], folder=folder)
-        tally.same("a volume of a member of raid%d" % level, got, status, "", told)
-    tally.holds("what it has", read(os.path.join(folder, "of1")) == wanted, "it is another")
     # An image without anything says nothing.
     program.file("walk/empty", "")
     program.file("walk/lacking", "".join("%s %s\n" % it for it in zip(HINTS, ("a.img", "empty", "c.img"))))
     got = tool_calls.call(top, ["save", "--program", program.path, "--paths", "lacking", "vg-home", "gaps", "lvm", "vg.backup"], folder=folder)
     is_refused = got.status == 1 and b"vg-home: empty ends at byte 0; or give" in got.err and not os.path.exists(os.path.join(folder, "gaps"))
     tally.holds("a volume of a disk without an image", is_refused, "%s, %r" % (got.status, got.err))
-    program.file("walk/exchanged", "".join("%s %s\n" % it for it in zip(HINTS, NAMES[1:])))
-    got = tool_calls.call(top, ["save", "--program", program.path, "--paths", "exchanged", "vg-home", "other", "lvm", "vg.backup"], folder=folder)
-    tally.same("a volume out of other images", got, 1, "", "dmremap-tools save: b.img: it isn't /dev/sda1, whose id is %s, but has the id %s: give the path of that\n" % (dashed(IDS[0]), dashed(IDS[1])))
     owned = tool("owner", *NAMES, "--map", "c.img=c.map").splitlines()
     tally.holds("who has the sectors that are lost", len(owned) == len(rescue.split("-")) - 1 and all("= vg/home" in line for line in owned), owned)
     named = set(tool("lost", "vg/home", *NAMES, "--map", "c.img=c.map").replace(": ", " ").split())

@@ -8,7 +8,7 @@ import os
 import re
 import stat
 import time
-from typing import Generator, Iterable, Iterator, List, NamedTuple, Optional, Sequence, Tuple
+from typing import Iterable, Iterator, List, Optional, Sequence, Tuple
 
 from dmremap_tools.base import quoting, streams, written
 from dmremap_tools.base.numbers import SECTOR
@@ -29,8 +29,8 @@ NOTHING = bytes(BLOCK)
 UNREADABLE = Missing("it can't be read")
 # How often a map is written, in seconds.
 STEP = 30
-# Bytes of a file: the first one, and where they and those after it come from.
-Transfer = Tuple[int, Iterable[Extent]]
+# Bytes whose places are asked for at once.
+WINDOW = 256 << 20
 # From which byte up to which one, what they are, or nothing where they are zeros, and what is missing there.
 Content = Tuple[int, int, bytes, Optional[Missing]]
 
@@ -41,14 +41,6 @@ class Absent(Missing):
     def __init__(self, disk: str, why: str) -> None:
         super().__init__(why)
         self.disk = disk
-
-
-class Source(NamedTuple):
-    """What is saved: what it is called, ids of what it is read from, and how many maps of images were given."""
-
-    name: str
-    ids: List[str]
-    maps: int
 
 
 def head_of(device: Device) -> str:
@@ -65,14 +57,15 @@ def merged(one: str, other: str) -> Optional[str]:
 
 
 class SavedMap:
-    """The areas of a file of so many bytes; of the map at `path`, if there is one, which has to be of the same source.
-    It is locked as long as this run goes on."""
+    """The areas of a file of so many bytes; of the map at `path`, if there is one, which has to be of the same source:
+    what is saved, the ids of what it is read from, and no more maps of images. It is locked as long as this run goes
+    on."""
 
-    def __init__(self, path: Optional[str], source: Source, size: int) -> None:
+    def __init__(self, path: Optional[str], name: str, ids: List[str], maps: int, size: int) -> None:
         self.size, self.is_begun, self.is_made = size, path is not None and os.path.lexists(path), False
         self.place = None if path is None else written.Place(path)
         self._shown = self.place.shown if self.place else ""
-        self._source, self._lock, self.has_more_maps = source, -1, False
+        self._name, self._ids, self._maps, self._lock, self.has_more_maps = name, ids, maps, -1, False
         self._areas, self._marks = append([], Area(0, size, UNTRIED)), []  # type: List[Area], List[Area]
         if self.place and path is not None and self.is_begun:
             self._lock = self._locked(self.place, path)
@@ -95,24 +88,22 @@ class SavedMap:
             raise Refusal(self._shown, f"it doesn't say of which volume it is, as those do that save writes: {NEW}")
         ids = said[3].split(" ")
         known = [merged(one, other) for one, other in zip(ids, own[3].split(" "))]
-        is_same = len(ids) == len(self._source.ids) and None not in known
+        is_same = len(ids) == len(self._ids) and None not in known
         if said[1] != own[1] or said[2] != own[2] or not is_same:
             what = f"{said[1]} of {said[2]} sectors" + ", from other images" * (said[1] == own[1] and said[2] == own[2])
             this = f"{own[1]} of {own[2]}"
             raise Refusal(self._shown, f"it is the map of {quoting.shown(what)}, and this is {this}: {NEW}")
         maps = int(said[4] or 0)
-        if self._source.maps < maps:
+        if self._maps < maps:
             raise Refusal(self._shown, f"it was begun with {maps} maps of images: give them again as --map IMAGE=MAP")
-        self.has_more_maps = self._source.maps > maps
-        self._source = self._source._replace(ids=[it for it in known if it is not None])
+        self.has_more_maps, self._ids = self._maps > maps, [it for it in known if it is not None]
         if (self._areas[0].begin, self._areas[-1].end) != (0, self.size) if self._areas else self.size:
             raise Refusal(self._shown, f"a map of another file than one of {self.size} bytes: {NEW}")
 
     def _said(self) -> str:
         """The line that says what it is the map of."""
-        sectors, ids, maps = -(-self.size // SECTOR), " ".join(self._source.ids), self._source.maps
-        with_maps = f", with {maps} maps" if maps else ""
-        return quoting.escaped(f"# Of {self._source.name} of {sectors} sectors, from {ids}{with_maps}")
+        sectors, with_maps = -(-self.size // SECTOR), f", with {self._maps} maps" if self._maps else ""
+        return quoting.escaped(f"# Of {self._name} of {sectors} sectors, from {' '.join(self._ids)}{with_maps}")
 
     def check_finished(self, lost: Sequence[Run]) -> None:
         """Refuses to go on where bytes are finished that are lost by a map which is new to this run."""
@@ -220,33 +211,34 @@ class Target:
             os.fdatasync(self._descriptor)
 
 
-def put_together(path: str, saved: SavedMap, transfers: Generator[Transfer, None, None]) -> bool:
-    """Makes a file of its parts, which come in their order, or goes on with it. Tells what is missing, and says whether
-    something is. Without a map the file gets to its place once it is whole."""
+def put_together(path: str, saved: SavedMap, device: Device) -> bool:
+    """Makes a file of the bytes of a device, or goes on with it. Tells what is missing, and says whether something is.
+    Without a map the file gets to its place once it is whole."""
     target = Target(path, saved.size, saved.is_begun)
     if saved.place:
         put_begun(target, saved)
     gap, due, absent = range(0), time.monotonic() + STEP, {""}
     try:
-        with contextlib.closing(transfers):
-            contents = (it for start, extents in transfers for it in contents_of(start, extents))
-            for begin, end, content, lack in gathered(contents, target):
-                target.write(begin, content)
-                if lack:
-                    told = f"missing: {quoting.shown(lack.disk)}: {lack.name}" if isinstance(lack, Absent) else ""
-                    if told not in absent:
-                        streams.tell(told)
-                        absent.add(told)
-                    first = begin // SECTOR
-                    if first != gap.stop:
-                        tell(gap)
-                    gap = range(gap.start if first == gap.stop else first, end // SECTOR)
-                saved.mark(begin, end, UNTRIED if isinstance(lack, Absent) else BAD if lack else FINISHED)
-                streams.show_progress(f"{end >> 20} of {saved.size >> 20} MiB")
-                if saved.place and time.monotonic() > due:
-                    target.sync()
-                    saved.write()
-                    due = time.monotonic() + STEP
+        windows = ((start, min(end, start + WINDOW) - start) for begin, end in saved.left(0, saved.size)
+                   for start in range(begin, end, WINDOW))
+        contents = (it for start, size in windows for it in contents_of(start, device.extents(start, size)))
+        for begin, end, content, lack in gathered(contents, target):
+            target.write(begin, content)
+            if lack:
+                told = f"missing: {quoting.shown(lack.disk)}: {lack.name}" if isinstance(lack, Absent) else ""
+                if told not in absent:
+                    streams.tell(told)
+                    absent.add(told)
+                first = begin // SECTOR
+                if first != gap.stop:
+                    tell(gap)
+                gap = range(gap.start if first == gap.stop else first, end // SECTOR)
+            saved.mark(begin, end, UNTRIED if isinstance(lack, Absent) else BAD if lack else FINISHED)
+            streams.show_progress(f"{end >> 20} of {saved.size >> 20} MiB")
+            if saved.place and time.monotonic() > due:
+                target.sync()
+                saved.write()
+                due = time.monotonic() + STEP
         tell(gap)
     finally:
         # Where the file's disk doesn't take what was written, the map doesn't say that it did.

@@ -7,7 +7,7 @@ import shutil
 import subprocess
 import sys
 import tempfile
-from argparse import ArgumentParser
+from argparse import ArgumentParser, ArgumentTypeError
 from typing import Any, List, NoReturn, Optional, Sequence, Tuple
 
 from dmremap_tools.base import quoting, streams
@@ -28,8 +28,19 @@ class NoProgram(Refusal):
 
 
 def add_words(parser: ArgumentParser) -> None:
-    parser.add_argument("--program", metavar="PROGRAM",
+    parser.add_argument("--program", metavar="PROGRAM", type=_told,
                         help="the dmremap to run; by default the one beside this tool, or on the path")
+
+
+@functools.lru_cache(None)
+def _told(given: str) -> str:
+    """A word for dmremap, refused if another program answers --version. One that can't be run is told where it is."""
+    with contextlib.suppress(Refusal):
+        path = _chosen(given)
+        printed, _, status = ask([path, "--version"]) if path else ("", "", -1)
+        if status > 0 or status == 0 and not printed.startswith("dmremap "):
+            raise ArgumentTypeError(f"it isn't dmremap, by its --version: {quoting.shown(given)}")
+    return given
 
 
 def dmremap(given: Optional[str]) -> str:

@@ -28,6 +28,9 @@ def some(words: List[str], between: str = ", ") -> str:
 
 def printable(text: str) -> str:
     """The text as it is, or in quotes and with escapes where it has letters that don't print."""
-    if text.isprintable():
-        return text
-    return '"%s"' % escaped(text.replace("\\", "\\\\").replace('"', '\\"'))
+    return text if text.isprintable() else escaped(quoted(text))
+
+
+def quoted(text: str) -> str:
+    """The text in quotes, with a backslash before each quote and each backslash."""
+    return '"%s"' % text.replace("\\", "\\\\").replace('"', '\\"')

@@ -9,7 +9,6 @@ MOST = 1 << 20
 # What is longer than 2 PiB is no length of anything: it would be cut into more than four million requests.
 LONGEST = 1 << 42
 TOO_LONG = "longer than 2 PiB"
-NO_REQUEST = "not a request, give R or W, a device, a sector and how many"
 _write = streams.out.write
 # What to do, a device, and two numbers, as they mostly are.
 _MOST_LINES = re.compile(fr"([RW]) (\S+) {numbers.SHORT} {numbers.SHORT}")

@@ -179,9 +179,9 @@ def read(path: str, most: int = MOST_TEXT) -> str:
     return _decoded(plain_bytes(path, most))
 
 
-def rows(path: str, most: int = MOST_TEXT) -> List[str]:
+def rows(path: str) -> List[str]:
     """The lines of the whole text of a file. As in `Lines`, a text that ends within one is refused."""
-    *lines, last = read(path, most).split("\n")
+    *lines, last = read(path).split("\n")
     if last:
         raise Refusal(f"{name_of(path)}:{len(lines) + 1}", UNENDED + quoting.shown(last))
     return lines

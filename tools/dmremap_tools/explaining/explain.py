@@ -29,8 +29,6 @@ from dmremap_tools.model import loaded_stack, mapping
 EXAMPLE = "dmremap-tools explain map lvm vg0.backup 'R vg0-lv0 8000 16'"
 MOST_REQUESTS, MOST_BYTES = 16, 1 << 24
 REQUEST = re.compile(r"[RW] .*", re.S)
-# The commands that read requests.
-FED = ("map", "replay")
 
 
 def add_words(parser: argparse.ArgumentParser) -> None:
@@ -49,7 +47,7 @@ def run(words: argparse.Namespace) -> None:
     # What is loaded is looked at first, so that no request is waited for where it is refused.
     printed, message = program.ask_quietly([asked, *typed])
     if not message:
-        is_awaited = not requests and plain[:1] and plain[0] in FED and not os.isatty(0)
+        is_awaited = not requests and plain[:1] and plain[0] in ("map", "replay") and not os.isatty(0)
         requests = streams.read_bytes("-", MOST_BYTES) if is_awaited else requests
         printed, message = program.ask_quietly([asked, *typed], requests)
     form, file, disks = (plain[1:4] + [""] * 3)[:3]

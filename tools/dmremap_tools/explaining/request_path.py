@@ -349,11 +349,8 @@ class LevelQueries:
 
     def _line_over_disks(self, line: tables.Line, kept: Optional[str]) -> tables.Line:
         """The line with disks in place of stores and devices below, but for the origin that stays."""
-        words = list(line.words)
-        for at in line.places():
-            if (line.target, at) == (SNAPSHOT, 1) or words[at] in self._by_path and words[at] != kept:
-                words[at] = self._disks[words[at]]
-        return tables.Line(line.start, line.length, line.target, words)
+        over = {*self._by_path, *line.words[1:2] * (line.target == SNAPSHOT)} - {kept}
+        return line.with_lowers(lambda it: self._disks[it] if it in over else it)
 
     def _answers(self, words: List[str], requests: List[str], has_state: bool = True) -> List[List[Piece]]:
         """dmremap's pieces for each request about the stack of these words, after earlier ones if that has a state."""

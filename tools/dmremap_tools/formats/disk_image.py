@@ -42,9 +42,6 @@ OTHER_TABLES = [("Sun", 508, b"\xda\xbe"), ("SGI", 0, b"\x0b\xe5\xa9\x41"), ("Ap
 HAS_JOURNAL = 0x4
 EXT4_INCOMPATIBLE = 0x40 | 0x80 | 0x100 | 0x200 | 0x400 | 0x1000 | 0x4000 | 0x8000 | 0x10000
 EXT4_READ_ONLY = 0x8 | 0x10 | 0x20 | 0x40 | 0x400
-# What isn't mounted itself, and the options of file systems without which a mount replays their journals.
-UNMOUNTED = ("luks", "bitlocker", "swap", "lvm2", "zfs", "bcache")
-WITHOUT_JOURNAL = {"ext3": ",noload", "ext4": ",noload", "xfs": ",norecovery"}
 
 
 class Readable(Protocol):
@@ -98,13 +95,6 @@ def file_system_of(image: Readable) -> Optional[str]:
         return "iso9660" if UDF.isdisjoint(disc) else "udf"
     found = next((name for name, at, content in MAGICS if head.startswith(content, at)), None)
     return "squashfs3" if found == "squashfs" and head[SQUASHFS_VERSION_AT] < SQUASHFS else found
-
-
-def mount_command(system: Optional[str], path: str, folder: str) -> Optional[str]:
-    """What mounts an image and changes nothing in it, by the file system that begins it; None where none does."""
-    if system is None or system in UNMOUNTED:
-        return None
-    return f"mount -o ro,loop{WITHOUT_JOURNAL.get(system, '')} {path} {folder}"
 
 
 def other_table_of(image: Readable) -> Optional[str]:

@@ -1,5 +1,5 @@
 """A volume of a pile of images as a disk, for nbdkit: what the plugin of `serve` calls. Its functions have the names
-and arguments of nbdkit-python-plugin(3)."""
+and arguments of nbdkit-python-plugin(3), which has one request answered at a time."""
 
 import errno
 import itertools
@@ -21,11 +21,6 @@ API_VERSION = 2
 MOST_BYTES, MOST_EXTENTS = 1 << 26, 1 << 10
 _given: Dict[str, List[str]] = {}
 _target: NamedDevice
-
-
-def thread_model() -> int:
-    """One request is answered at a time, as the devices ask one child."""
-    return nbdkit.THREAD_MODEL_SERIALIZE_ALL_REQUESTS
 
 
 def config(key: str, value: str) -> None:
@@ -53,11 +48,6 @@ def open(readonly: bool) -> int:
 
 def get_size(handle: int) -> int:
     return _target.size
-
-
-def can_multi_conn(handle: int) -> bool:
-    """Nothing is written, so all clients see the same."""
-    return True
 
 
 def answered(ask: Callable[..., Any]) -> Callable[..., Any]:

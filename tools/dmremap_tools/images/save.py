@@ -24,24 +24,22 @@ import hashlib
 import os
 import tempfile
 from argparse import ArgumentParser, Namespace
-from typing import Dict, Generator, Iterator, List, Optional, Set, Tuple
+from typing import Dict, List, Optional, Set
 
-from dmremap_tools.answers.saved import PARTLY, Absent, SavedMap, Source, head_of, put_together
+from dmremap_tools.answers.saved import PARTLY, Absent, SavedMap, head_of, put_together
 from dmremap_tools.base import given, names, quoting, streams, written
 from dmremap_tools.base.numbers import SECTOR
 from dmremap_tools.base.paths import DiskPlace
 from dmremap_tools.base.refusal import INCOMPLETE, Refusal, WrongWords
 from dmremap_tools.formats import rescue_map
 from dmremap_tools.model import loaded_stack
-from dmremap_tools.model.device import ANY, Device, Extent, Image, NamedDevice, Part, Run, lacking
+from dmremap_tools.model.device import ANY, Device, Image, NamedDevice, Part, Run, lacking
 from dmremap_tools.model.mapping import LoadedTables, MappedDevice
 
 EXAMPLE = "dmremap-tools save vg0/home home.img sda.img sdb.img --resume home.map"
 # The words of the command, for its manual.
 FORMS = ("GROUP/VOLUME OUT IMAGE ..", "VOLUME TARGET FORMAT FILE [DISKS]")
 USAGE = "usage: " + ", or ".join(FORMS)
-# Bytes whose places are asked for at once.
-WINDOW = 256 << 20
 
 
 def add_words(parser: ArgumentParser) -> None:
@@ -83,18 +81,11 @@ def copy(words: Namespace, target: NamedDevice) -> bool:
         raise Refusal(quoting.shown(target.name), f"{taken}{why}; or {PARTLY}")
     if why:
         streams.tell(f"{quoting.shown(target.name)}: {why}")
-    source = Source(target.name, target.ids or [head_of(target.device)], len(words.map))
-    saved = SavedMap(words.resume, source, target.size)
+    ids = target.ids or [head_of(target.device)]
+    saved = SavedMap(words.resume, target.name, ids, len(words.map), target.size)
     if saved.has_more_maps:
         saved.check_finished(lacking(target.device, target.size))
-    return put_together(words.target, saved, extents_of(target, saved))
-
-
-def extents_of(target: NamedDevice, saved: SavedMap) -> Generator[Tuple[int, Iterator[Extent]], None, None]:
-    """Where what is left to do lies, each part with its first byte."""
-    for begin, end in saved.left(0, target.size):
-        for start in range(begin, end, WINDOW):
-            yield start, target.device.extents(start, min(end, start + WINDOW) - start)
+    return put_together(words.target, saved, target.device)
 
 
 def target_of(words: Namespace, folder: str) -> NamedDevice:

@@ -30,7 +30,7 @@ from typing import Any, Callable, Dict, Iterator, List, Optional
 from dmremap_tools.base import INCOMPLETE, SECTOR, Refusal, paths, program, quoting, streams
 from dmremap_tools.base.program import NoProgram
 from dmremap_tools.formats import partition_table
-from dmremap_tools.formats.luks_header import Container, container_in
+from dmremap_tools.formats.luks_header import container_in
 from dmremap_tools.model import md_superblock
 from dmremap_tools.model.device import Device, Image, Lenient
 from dmremap_tools.model.groups import UNKNOWN, WHOLE, Group, Volume
@@ -81,19 +81,15 @@ def object_of(pile: Pile) -> JsonObject:
 
 def luks_rows(pile: Pile) -> Iterator[JsonObject]:
     """The containers in images and arrays, and those in volumes."""
-    for spot, container in pile.containers:
-        yield luks_row(container, spot.place, spot.path if spot.image else None, spot.partition if spot.image else 0)
+    found = [(container, spot.place, spot.path if spot.image else spot.place, spot.partition if spot.image else 0)
+             for spot, container in pile.containers]
     for volume in (volume for group in pile.groups for volume in group.volumes):
         is_luks = asked_or(volume.file_system, UNASKED) == "luks"
         inner = container_in(Lenient(volume.device())) if is_luks else None
-        if inner:
-            yield luks_row(inner, volume.path, None, 0)
-
-
-def luks_row(container: Container, name: str, image: Optional[str], partition: int) -> JsonObject:
-    """A container by its name, and the image and the partition that it is, if it is in one."""
-    return {"name": name, "image": image or name, "partition": partition, "version": container.version,
-            "id": container.identity, "start": container.start, "sectors": container.length, "why": container.fault}
+        found += [(inner, volume.path, volume.path, 0)] if inner else []
+    for it, name, image, partition in found:
+        yield {"name": name, "image": image, "partition": partition, "version": it.version, "id": it.identity,
+               "start": it.start, "sectors": it.length, "why": it.fault}
 
 
 def image_row(pile: Pile, image: Image) -> JsonObject:

@@ -20,7 +20,6 @@ from typing import List, Optional
 
 from dmremap_tools.base import Refusal, program, quoting, streams
 from dmremap_tools.formats import rescue_map
-from dmremap_tools.formats.disk_image import mount_command
 from dmremap_tools.model.groups import file_system_in
 from dmremap_tools.model.pile import Pile
 
@@ -31,9 +30,12 @@ FILE = "disk/volume.img"
 COPY = f"""copy it:    nbdcopy {{uri}} volume.img    (or: qemu-img convert -f raw -O raw {{uri}} volume.img)
 as a file:  mkdir disk; nbdfuse {FILE} {{uri}} &
 """
-MOUNT = """mount it:   {}    (as root)
+MOUNT = f"""mount it:   mount -o ro,loop{{}} {FILE} /mnt    (as root)
 unmount it: umount /mnt    (as root)
 """
+# What isn't mounted itself, and the options of file systems without which a mount replays their journals.
+UNMOUNTED = (None, "luks", "bitlocker", "swap", "lvm2", "zfs", "bcache")
+WITHOUT_JOURNAL = {"ext3": ",noload", "ext4": ",noload", "xfs": ",norecovery"}
 END = """end it:     fusermount3 -u disk    (as root: umount disk); kill {}    (or interrupt this command)
 """
 
@@ -74,8 +76,9 @@ def run(words: Namespace) -> None:
 
 def lines_of(path: str, system: Optional[str]) -> str:
     """What may be typed while the server listens at a path, by the file system of the volume."""
-    uri, mount = shlex.quote(f"nbd+unix:///?socket={path}"), mount_command(system, FILE, "/mnt")
-    return f"{uri}\n{COPY.format(uri=uri)}{MOUNT.format(mount) if mount else ''}{END.format(os.getpid())}"
+    uri = shlex.quote(f"nbd+unix:///?socket={path}")
+    mount = "" if system in UNMOUNTED else MOUNT.format(WITHOUT_JOURNAL.get(system or "", ""))
+    return f"{uri}\n{COPY.format(uri=uri)}{mount}{END.format(os.getpid())}"
 
 
 def serve(command: List[str], path: str, lines: str) -> None:

@@ -24,7 +24,7 @@ import tempfile
 from argparse import ArgumentParser, Namespace
 from typing import Dict, Iterable, Iterator, List, NamedTuple, Set
 
-from dmremap_tools.base import Refusal, given, names, pieces, program, requests, streams, tables
+from dmremap_tools.base import Refusal, given, names, pieces, program, quoting, requests, streams, tables
 from dmremap_tools.model import loaded_stack
 
 EXAMPLE = "dmremap-tools layout table stack.table stack.disks --free"
@@ -160,21 +160,16 @@ def graph_of(devices: List[tables.TableDevice]) -> Iterator[str]:
     """Devices as a graph of Graphviz, each step once."""
     steps: Dict[str, None] = {}
     for device in devices:
-        name = quoted_node(device.name)
+        name = quoting.quoted(device.name)
         for line in device.lines:
             for place, lower in enumerate(line.lowers()):
-                below = quoted_node(names.of_path(lower) if lower.startswith(names.MAPPER) else "disk " + lower)
+                below = quoting.quoted(names.of_path(lower) if lower.startswith(names.MAPPER) else "disk " + lower)
                 if not lower.startswith(names.MAPPER):
                     steps[below + " [shape=box]"] = None
                 kind = (ORIGIN, "store")[place] if line.target == "snapshot" else line.target
                 steps[f'{name} -> {below} [label="{kind} {line.start}+{line.length}"]'] = None
         steps[name] = None
     return iter(["digraph stack {\n", *(f"  {step}\n" for step in steps), "}\n"])
-
-
-def quoted_node(text: str) -> str:
-    """The name of a node, in quotes."""
-    return '"%s"' % text.replace("\\", "\\\\").replace('"', '\\"')
 
 
 def extents_of(words: Namespace, source: given.Given, name: str, folder: str) -> Iterator[str]:

@@ -244,19 +244,14 @@ class Agreed(Device):
 
     def _differing(self, begin: int, end: int) -> Iterator[Run]:
         """The sectors of some bytes that aren't the same on all sides, or can't be read there."""
-        try:
-            contents = [side.read(begin, end - begin) for side in self._sides]
-        except (Gap, OSError):
-            middle = begin + max((end - begin) // 2 // SECTOR, 1) * SECTOR
-            if middle < end:
-                yield from self._differing(begin, middle)
-                yield from self._differing(middle, end)
-            else:
-                yield begin, end
-            return
-        for at in range(0, end - begin, SECTOR if contents.count(contents[0]) < len(contents) else end - begin):
-            if len({content[at:at + SECTOR] for content in contents}) > 1:
-                yield begin + at, begin + at + SECTOR
+        for count, contents, is_there in read_blocks(
+                lambda *run: [side.read(*run) for side in self._sides], begin, end):
+            if not is_there:
+                yield begin, begin + count
+            elif contents.count(contents[0]) < len(contents):
+                yield from ((begin + at, begin + at + SECTOR) for at in range(0, count, SECTOR)
+                            if len({content[at:at + SECTOR] for content in contents}) > 1)
+            begin += count
 
 
 class Image(Device):
@@ -399,7 +394,7 @@ def blocks_of(start: int, size: int, block: int) -> Iterator[Tuple[int, int, int
         start, size = start + count, size - count
 
 
-def read_blocks(load: Callable[[int, int], bytes], begin: int, end: int) -> Iterator[Tuple[int, bytes, bool]]:
+def read_blocks(load: Callable[[int, int], Any], begin: int, end: int) -> Iterator[Tuple[int, Any, bool]]:
     """Bytes in blocks, and in halves of these where they can't be read: how many, the bytes, and if they are there."""
     waiting: List[Tuple[int, int]] = [(start, min(BLOCK, end - start)) for start in reversed(range(begin, end, BLOCK))]
     while waiting:
@@ -416,12 +411,8 @@ def read_blocks(load: Callable[[int, int], bytes], begin: int, end: int) -> Iter
 
 def lacking(device: Device, size: int) -> List[Run]:
     """The runs of the first bytes of a device that aren't there."""
-    runs: List[Run] = []
-    for at, extent in joined(device, 0, size) if device.lack(0, size) is not None else ():
-        if extent.source.lack(extent.start, extent.size) is not None:
-            begin = runs.pop()[0] if runs and runs[-1][1] == at else at
-            runs.append((begin, at + extent.size))
-    return runs
+    found = joined(device, 0, size) if device.lack(0, size) is not None else ()
+    return joint((at, at + it.size) for at, it in found if it.source.lack(it.start, it.size) is not None)
 
 
 def joined(device: Device, start: int, size: int) -> Iterator[Tuple[int, Extent]]:

@@ -36,7 +36,6 @@ USED = re.compile(r"^(?:Block|Inode) ([0-9]{1,20}) (?:is )?marked in use$", re.M
 NAMED = re.compile(r"([1-9][0-9]{0,9})\t/*(/.*)")
 # The inode that a path leads to, as `imap` answers.
 LEADS_TO = re.compile(r"Inode ([1-9][0-9]{0,9}) is part of ")
-FOLDER = re.compile(r"Type: directory")
 ROOT = 2
 # debugfs ends its search once it has as many names as the inodes say that they have, and one that is lost says none.
 # The root counts as one and has no name: asked for as well, and as often, it lets the search go on.
@@ -284,7 +283,7 @@ class ExtSystem(FileSystem):
         """Those that `stat` of debugfs calls folders."""
         files = [it for it in paths if it.startswith("/")]
         answers = self._ask_many("stat " + debugfs_word(it) for it in files)
-        return {file for file, answer in zip(files, answers) if FOLDER.search(answer)}
+        return {file for file, answer in zip(files, answers) if "Type: directory" in answer}
 
     def _take_layout(self, printed: str) -> bool:
         """Takes what `stats` says, if it says all of it, and each group has its table of inodes."""

@@ -30,8 +30,8 @@ TWIN = "{} may be a newer copy of {}, as it has some of its sectors, or none, an
 # Fewer bytes don't tell what an image is.
 HEAD = 9 * SECTOR
 SINCE, LEFT = "nothing tells who wrote there since", "nothing tells which of its sectors are left"
-WHOLE, INVALID, INCOMPLETE, UNKNOWN, REMOVED = "whole", "invalid", "incomplete", "not followed", "removed"
 Refused = Callable[..., Optional[str]]
+WHOLE, INVALID, INCOMPLETE, UNKNOWN, REMOVED = "whole", "invalid", "incomplete", "not followed", "removed"
 # A text, the physical volumes of which it is the current one, and the ids of those whose rings have it.
 Holder = NamedTuple("Holder", [("text", Text), ("volumes", List[PhysicalVolume]), ("rings", Set[str])])
 # Sectors of a physical volume: the first one and the one after the last, whose they are, and by which text.

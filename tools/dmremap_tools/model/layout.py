@@ -38,8 +38,6 @@ NEXT = "activate the group's copy on a machine with lvm2 for this volume; the ot
 ODD = "restore an older text by vgcfgrestore on copies of the disks (`metadata --list` shows what there is)"
 # What devices are called in tables.
 NUMBERS = itertools.count()
-# Sectors of a physical volume: its id, the first one, and the one after the last.
-UsedSectors = Tuple[str, int, int]
 Made = TypeVar("Made")
 
 
@@ -236,8 +234,8 @@ class Layout:
             found += self.group.volumes.keys() & lower - set(found)
         return found[1:]
 
-    def uses(self, name: bytes) -> Set[UsedSectors]:
-        """What a volume and what it lies on use of physical volumes."""
+    def uses(self, name: bytes) -> Set[Tuple[str, int, int]]:
+        """What a volume and what it lies on use of physical volumes: ids, first sectors, and those after the last."""
         found, sectors = set(), self.extent // SECTOR
         volumes = [self.group.volumes[lower] for lower in (name, *self.below(name))]
         for segment in (segment for volume in volumes for segment in volume.segments):

@@ -204,7 +204,8 @@ class Child:
         try:
             self._child.stdin.write(f"R {name} {first} {count}\n".encode())
             self._child.stdin.flush()
-        except OSError:
+        except (OSError, ValueError):
+            # It ended, perhaps at a request before.
             self._fail()
         self._number += 1
         found: MappedPieces = [], [], []

@@ -118,11 +118,6 @@ def ground_of(claims: Iterable[OwnedRun]) -> Ground:
     return ground
 
 
-def claimed(claims: Iterable[OwnedRun], rest: Ground) -> Ground:
-    """The ground of some claims, and of what none of them has."""
-    return filled(ground_of(claims), rest)
-
-
 def filled(ground: Ground, rest: Ground) -> Ground:
     """A ground, and another one of the sectors that it says nothing of."""
     def both(first: int, end: int) -> Iterator[OwnedRun]:
@@ -346,7 +341,7 @@ class Owners:
         copies = itertools.chain([table.kind], itertools.repeat(f"backup of the {table.kind}" if table.copy else "MBR"))
         claims = [OwnedRun(start // SECTOR, end // SECTOR, name) for (start, end), name in zip(table.taken, copies)]
         claims += [self._within(part.start, part.size, part) for part in table.partitions.values()]
-        return claimed(claims, owners_of_unclaimed(device, "no partition has it"))
+        return filled(ground_of(claims), owners_of_unclaimed(device, "no partition has it"))
 
     def _of_volume(self, volume: PhysicalVolume) -> Ground:
         """Who has the sectors of a physical volume."""
@@ -357,7 +352,7 @@ class Owners:
                 if identity == volume.identity]
         grounds = [self._extents(stack, key, volume) for stack, key in keys]
         grounds = grounds or [self._and_once(without_group(volume), volume)]
-        return claimed(claims, lambda first, end: [run for ground in grounds for run in ground(first, end)])
+        return filled(ground_of(claims), lambda first, end: [run for ground in grounds for run in ground(first, end)])
 
     def _extents(self, stack: TextOwners, key: bytes, volume: PhysicalVolume) -> Ground:
         """Who has the sectors of a physical volume by the text of one group."""
@@ -367,8 +362,8 @@ class Owners:
             return owned_by_one(unknown_owner(f"the text of {group} doesn't say where the extents of {shown(key)} are"))
         free = unknown_owner(f"no volume of {group} has it, but {stack.doubt}") if stack.doubt else f"free in {group}"
         extents = filled(stack.on(key), self._and_once(free, volume))
-        return claimed([OwnedRun(start, start + count * stack.extent, "", start, extents)],
-                       owned_by_one(f"physical volume of {group}, outside of its extents"))
+        return filled(ground_of([OwnedRun(start, start + count * stack.extent, "", start, extents)]),
+                      owned_by_one(f"physical volume of {group}, outside of its extents"))
 
     def _and_once(self, name: str, volume: PhysicalVolume) -> Ground:
         """The same for all, and the volumes that were removed, and had some of the sectors."""
@@ -391,7 +386,7 @@ class Owners:
         else:
             said = f"{found.what}: {found.note}" if found.note else found.what
         claims = [self._within(volume.start, volume.size, volume.device) for volume in inside]
-        return self._known.setdefault(device, claimed(claims, owned_by_one(said)))
+        return self._known.setdefault(device, filled(ground_of(claims), owned_by_one(said)))
 
 
 def owners_of_container(device: Device, container: Container) -> Ground:
@@ -402,7 +397,7 @@ def owners_of_container(device: Device, container: Container) -> Ground:
     end = device.size // SECTOR if container.length is None else start + container.length
     claims = [OwnedRun(0, max(start, container.header), f"{name} header")]
     claims += [OwnedRun(start, end, f"{name} data, encrypted")] * (start >= container.header)
-    return claimed(claims, owners_of_unclaimed(device, "the container doesn't say that it has it"))
+    return filled(ground_of(claims), owners_of_unclaimed(device, "the container doesn't say that it has it"))
 
 
 def owners_of_member(array: Array, member: Member, above: Ground) -> Ground:
@@ -414,7 +409,7 @@ def owners_of_member(array: Array, member: Member, above: Ground) -> Ground:
         data = owned_by_one(f"a member of {array.label} that is stale or was being rebuilt")
     else:
         data = filled(functools.partial(owners_of_array_data, array, member, above), rest)
-    return claimed([OwnedRun(start, start + array.length(member), "", 0, data)], rest)
+    return filled(ground_of([OwnedRun(start, start + array.length(member), "", 0, data)]), rest)
 
 
 def owners_of_array_data(array: Array, member: Member, above: Ground, first: int, end: int) -> Iterator[OwnedRun]:

@@ -23,8 +23,7 @@ GROUPS = re.compile(r"Filesystem cylinder groups approximately [0-9]+")
 SIZE = re.compile(r"File size of .* is ([0-9]+) \(([0-9]+) blocks? of ([0-9]+) bytes\)")
 HEAD = re.compile(r" ext: +logical_offset: +physical_offset: length: +expected: flags:")
 EXTENT = re.compile(r" *{0}: +{0}\.\. *{0}: +{0}\.\. *{0}: +{0}:(?: +[0-9]+:)? *([a-z_0-9,]*)".format(r"([0-9]{1,18})"))
-FOUND = re.compile(r": [0-9]+ extents? found")
-NONE_FOUND = re.compile(r": 0 extents found")
+FOUND = re.compile(r": ([0-9]+) extents? found")
 KNOWN = {"ef53", "58465342"}
 PLACED = {"", "last", "eof", "merged", "shared", "unwritten"}
 MOST_SPARE = 1 << 24
@@ -50,6 +49,7 @@ def read_filefrag(source: streams.Lines) -> Iterator[Tuple[int, int]]:
     for line in source:
         extent = EXTENT.fullmatch(line) if opened else None
         named, kind = (None, None) if extent else (SIZE.fullmatch(line), TYPE.fullmatch(line))
+        found = FOUND.search(line) if opened and not extent else None
         if extent:
             place, first, last, start, end, length = map(int, extent.groups()[:6])
             flags, text = extent[7].split(","), line.lstrip(" ")
@@ -77,8 +77,8 @@ def read_filefrag(source: streams.Lines) -> Iterator[Tuple[int, int]]:
             if kind[1] not in KNOWN:
                 source.refuse_line("neither ext2, ext3, ext4 nor XFS, whose extents alone are places on the device")
             is_known = True
-        elif opened and FOUND.search(line):
-            if not is_last and (number or not NONE_FOUND.search(line)):
+        elif found:
+            if not is_last and (number or found[1] != "0"):
                 source.refuse_line("an extent is missing before, " + ANEW)
             opened = ""
         elif not GROUPS.fullmatch(line) and not (opened and HEAD.fullmatch(line)):

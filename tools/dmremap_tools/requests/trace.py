@@ -79,7 +79,8 @@ def run(words: Namespace) -> None:
 
 def cut(source: streams.Lines, are_bytes: bool) -> None:
     """Prints requests as dmremap takes them."""
-    form = "give R or W, a device, an offset and a length, and not" if are_bytes else requests.NO_REQUEST
+    form = "give R or W, a device, an offset and a length, and not" if are_bytes else (
+        "not a request, give R or W, a device, a sector and how many")
     for operation, name, first, count in requests.read(source, names.device, form):
         if are_bytes and not count:
             source.refuse_line("no bytes, give at least one")

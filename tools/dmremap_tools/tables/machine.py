@@ -242,7 +242,7 @@ def say_left_out(stack: Machine, kept: List[MachineDevice], disks: Dict[str, Opt
         if device.why:
             disk = f", the disk {quoting.shown(path)}" if path in disks else ""
             streams.tell(f"left out: {quoting.shown(device.name)} ({device.why}){disk}")
-        elif device.is_encrypted and not device.why:
+        elif device.is_encrypted:
             streams.tell(f"encrypted: the sectors below {device.name}, whose lines of crypt are linear here")
     for device in kept:
         origin = device.lowers()[0] if device.lines[0].target == "snapshot-origin" else ""
