@@ -1,6 +1,7 @@
 """Other programs: dmremap, and what commands ask, as debugfs. How they fail is told in words."""
 
 import contextlib
+import errno
 import functools
 import os
 import shutil
@@ -19,6 +20,7 @@ REFUSALS = (1, 2, 3, 4, 6)
 # What stands beside the script that builds dmremap, and tells which program was built of the sources that are there.
 SOURCES = os.path.join("tools", "building", "sources.py")
 NOT_BUILT = "no program is built here: run ./dmremap --version, which builds and proves it, or ./try --version"
+NOT_HERE = "there is none: build it, put it beside this tool or on the path, or give --program"
 NOT_PROVED = ("dmremap-tools: using the unproved program that ./try made; ./dmremap --version builds and proves the "
               "one to act on")
 
@@ -35,20 +37,22 @@ def add_words(parser: ArgumentParser) -> None:
 def dmremap(given: Optional[str]) -> str:
     """The path of dmremap: the one that was given, or that beside this tool, or that on the path. The script that would
     build it is never run: what it left, or ./try, is taken in its place if it fits the sources; else NoProgram."""
-    path = _chosen(given)
+    path, where, why = _chosen(given)
     if path is None:
-        raise NoProgram("dmremap", NOT_BUILT)
+        raise NoProgram(where, why)
     return path
 
 
 @functools.lru_cache(None)
-def _chosen(given: Optional[str]) -> Optional[str]:
-    """The same, or None where only the script is there."""
+def _chosen(given: Optional[str]) -> Tuple[Optional[str], str, str]:
+    """The same, or None, and why there is none; that is looked for once."""
     tools = os.path.abspath(sys.argv[0]), os.path.realpath(sys.argv[0])
     places = [given] if given is not None else [os.path.join(os.path.dirname(it), "dmremap") for it in tools]
     found = [path for path in (shutil.which(it) for it in [*places, *["dmremap"] * (given is None)]) if path]
     built = next((path for path in map(_built, found) if path), None)
-    return built or (None if found else given or "dmremap")
+    if found or given is None:
+        return built, "dmremap", NOT_BUILT if found else NOT_HERE
+    return None, quoting.shown(given), os.strerror(errno.EACCES if os.path.exists(given) else errno.ENOENT)
 
 
 def _built(path: str) -> Optional[str]:
