@@ -1,7 +1,6 @@
 """Other programs: dmremap, and what commands ask, as debugfs. How they fail is told in words."""
 
 import contextlib
-import errno
 import functools
 import os
 import shutil
@@ -37,22 +36,20 @@ def add_words(parser: ArgumentParser) -> None:
 def dmremap(given: Optional[str]) -> str:
     """The path of dmremap: the one that was given, or that beside this tool, or that on the path. The script that would
     build it is never run: what it left, or ./try, is taken in its place if it fits the sources; else NoProgram."""
-    path, where, why = _chosen(given)
+    path, why = _chosen(given)
     if path is None:
-        raise NoProgram(where, why)
+        raise NoProgram("dmremap", why)
     return path
 
 
 @functools.lru_cache(None)
-def _chosen(given: Optional[str]) -> Tuple[Optional[str], str, str]:
-    """The same, or None, and why there is none; that is looked for once."""
+def _chosen(given: Optional[str]) -> Tuple[Optional[str], str]:
+    """The same, or None, and why there is none. It is looked for once."""
     tools = os.path.abspath(sys.argv[0]), os.path.realpath(sys.argv[0])
     places = [given] if given is not None else [os.path.join(os.path.dirname(it), "dmremap") for it in tools]
     found = [path for path in (shutil.which(it) for it in [*places, *["dmremap"] * (given is None)]) if path]
     built = next((path for path in map(_built, found) if path), None)
-    if found or given is None:
-        return built, "dmremap", NOT_BUILT if found else NOT_HERE
-    return None, quoting.shown(given), os.strerror(errno.EACCES if os.path.exists(given) else errno.ENOENT)
+    return built or (None if found else given), NOT_BUILT if found else NOT_HERE
 
 
 def _built(path: str) -> Optional[str]:
