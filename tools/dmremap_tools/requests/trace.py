@@ -41,7 +41,7 @@ USUAL = re.compile(fr"^ *{PARSED}(?:Q +([A-Z]+) {numbers.SHORT} \+ ([1-9][0-9]{{
 EVENT = "block_bio_queue:"
 BEFORE = re.compile(r"(?:.*\s)?([0-9.]+):?(?:\s+\S*:)?\s*")
 AFTER = re.compile(fr"\s*([0-9]+,[0-9]+)\s{ASKED}")
-# The line of most of them: without a request, or with one that can't be refused but for what is done.
+# The line of most, which has no other form: no request, or one that can't be refused but for what is done.
 USUAL_EVENT = re.compile(fr"^ +[^ ,:\n]+ [^:\n]* ([0-9]+\.[0-9]+): +(?:block:)?{EVENT} +([0-9]+,[0-9]+) (?:([A-Z]+) "
                          fr"{numbers.SHORT} \+ ([1-9][0-9]{{0,5}})|\S+ \S+ \+ 0)(?: .*)?$", re.MULTILINE)
 LOST = re.compile(r"CPU:? ?[0-9]+ \[.*(?:LOST|DROPPED).*| *Skips: +0*[1-9].*")
@@ -120,7 +120,6 @@ def read_trace(source: streams.Lines, known: Dict[str, str], kept: Kept, times: 
     """Prints the requests of a trace as they come, and tells what was left out. Devices are known by their numbers."""
     events = passed = 0
     for block in source.blocks():
-        # Where a line may have both forms, each is looked at.
         usual = USUAL.findall(block) if EVENT not in block else [
             (number, time, *asked) for time, number, *asked in USUAL_EVENT.findall(block)]
         if len(usual) == block.count("\n") and print_requests(source, usual, known, kept, times):
