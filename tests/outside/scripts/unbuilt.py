@@ -9,6 +9,7 @@ from harness import Case, run
 from trees import REQUESTS, Tree, becomes
 
 NOT_BUILT = "dmremap: no program is built here: run ./dmremap --version, which builds and proves it, or ./try --version\n"
+NOT_HERE = "dmremap: there is none: build it, put it beside this tool or on the path, or give --program\n"
 NOT_PROVED = "dmremap-tools: using the unproved program that ./try made; ./dmremap --version builds and proves the one to act on\n"
 SOURCE = "crates/low/src/text"
 KEEP = "import sources as it; it.keep(it.made_of(it.TOP, it.TRIED), it.os.path.join(it.OUT, 'try'))"
@@ -52,6 +53,8 @@ def test_unbuilt(tally, tools, tree, program):
             tally.holds("%s where nothing is built" % where, is_so and not os.path.exists(os.path.join(tree.folder, "out")), "status %s, %r, %s" % (got.status, got.err, called))
     elsewhere = os.path.join(tree.folder, "on the path")
     os.makedirs(elsewhere)
+    got, _ = tools.call(shutil.copy(tools.ways[1], elsewhere), "scan", *tools.samples)
+    tally.holds("a scan where there is no program", got.status == 4 and got.err.decode() == NOT_HERE and got.out.decode().endswith(SHOWN % "?"), got.err)
     shutil.copy(program.path, os.path.join(elsewhere, "dmremap"))
     tools.finds(tally, "a program on the path", "ext2", path=[elsewhere])
     os.unlink(os.path.join(elsewhere, "dmremap"))

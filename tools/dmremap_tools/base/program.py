@@ -19,6 +19,7 @@ REFUSALS = (1, 2, 3, 4, 6)
 # What stands beside the script that builds dmremap, and tells which program was built of the sources that are there.
 SOURCES = os.path.join("tools", "building", "sources.py")
 NOT_BUILT = "no program is built here: run ./dmremap --version, which builds and proves it, or ./try --version"
+NOT_HERE = "there is none: build it, put it beside this tool or on the path, or give --program"
 NOT_PROVED = ("dmremap-tools: using the unproved program that ./try made; ./dmremap --version builds and proves the "
               "one to act on")
 
@@ -46,20 +47,20 @@ def _told(given: str) -> str:
 def dmremap(given: Optional[str]) -> str:
     """The path of dmremap: the one that was given, or that beside this tool, or that on the path. The script that would
     build it is never run: what it left, or ./try, is taken in its place if it fits the sources; else NoProgram."""
-    path = _chosen(given)
+    path, why = _chosen(given)
     if path is None:
-        raise NoProgram("dmremap", NOT_BUILT)
+        raise NoProgram("dmremap", why)
     return path
 
 
 @functools.lru_cache(None)
-def _chosen(given: Optional[str]) -> Optional[str]:
-    """The same, or None where only the script is there."""
+def _chosen(given: Optional[str]) -> Tuple[Optional[str], str]:
+    """The same, or None, and why there is none. It is looked for once."""
     tools = os.path.abspath(sys.argv[0]), os.path.realpath(sys.argv[0])
     places = [given] if given is not None else [os.path.join(os.path.dirname(it), "dmremap") for it in tools]
     found = [path for path in (shutil.which(it) for it in [*places, *["dmremap"] * (given is None)]) if path]
     built = next((path for path in map(_built, found) if path), None)
-    return built or (None if found else given or "dmremap")
+    return built or (None if found else given), NOT_BUILT if found else NOT_HERE
 
 
 def _built(path: str) -> Optional[str]:

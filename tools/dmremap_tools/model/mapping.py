@@ -30,7 +30,6 @@ FILES = ("FILE", "DISKS", "PATHS")
 FAILS = "reads fail there, as the tables say"
 # What else is done, by a name that no disk has.
 OTHERS = {"\0zero": (ZEROS, 0, ALL), "\0error": (Missing(FAILS), 0, ALL)}
-ASKED = "it is asked where volumes lie: build it, put it beside this tool, or give --program"
 # What a snapshot is called in tables of its own, and why one is refused.
 NAME, NEXT, OLDER = "snapshot", "activate it with lvm2, or save the origin", "give an older image of its disk"
 INVALID_SNAPSHOT = ("the snapshot is invalid: its store was full, and chunks that the origin overwrote since are lost; "
@@ -194,7 +193,7 @@ class Child:
         try:
             self._child = program.start(words, stdin=subprocess.PIPE, stdout=subprocess.PIPE, stderr=self._said)
         except Refusal as refusal:
-            raise NoProgram(refusal.where, f"{refusal.why}: {ASKED}")
+            raise NoProgram(refusal.where, refusal.why)
         # It ends once nobody may ask it any more.
         weakref.finalize(self, self._child.kill)
         self.ask(name, 0, 1)

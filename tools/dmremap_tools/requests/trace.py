@@ -41,6 +41,9 @@ USUAL = re.compile(fr"^ *{PARSED}(?:Q +([A-Z]+) {numbers.SHORT} \+ ([1-9][0-9]{{
 EVENT = "block_bio_queue:"
 BEFORE = re.compile(r"(?:.*\s)?([0-9.]+):?(?:\s+\S*:)?\s*")
 AFTER = re.compile(fr"\s*([0-9]+,[0-9]+)\s{ASKED}")
+# The line of most, which has no other form: no request, or one that can't be refused but for what is done.
+USUAL_EVENT = re.compile(fr"^ +[^ ,:\n]+ [^:\n]* ([0-9]+\.[0-9]+): +(?:block:)?{EVENT} +([0-9]+,[0-9]+) (?:([A-Z]+) "
+                         fr"{numbers.SHORT} \+ ([1-9][0-9]{{0,5}})|\S+ \S+ \+ 0)(?: .*)?$", re.MULTILINE)
 LOST = re.compile(r"CPU:? ?[0-9]+ \[.*(?:LOST|DROPPED).*| *Skips: +0*[1-9].*")
 # What stands beside the lines of a trace: empty lines, comments, and the sums of blkparse.
 BESIDE = re.compile(r"\s*(?:#.*)?|(?:CPU|Total \(|Throughput|Events \(|Skips:|Input file|cpus=).*"
@@ -69,8 +72,7 @@ def run(words: Namespace) -> None:
     if words.write_times is not None and are_requests:
         raise WrongWords("--write-times is for traces that have times: leave it out")
     if are_requests:
-        cut(streams.Lines(words.ls or "-"), words.bytes)
-        return
+        return cut(streams.Lines(words.ls or "-"), words.bytes)
     times = streams.beside(words.write_times) if words.write_times is not None else None
     known = names.read_lsblk(words.ls)[1] if words.lower else {number: name for name, number in names.read_ls(words.ls)}
     by_number = {number.replace(":", ","): name for number, name in known.items()}
@@ -105,9 +107,10 @@ class Kept:
         lacking = ("the output of lsblk", "DISKS") if self.are_disks else ("the output of dmsetup ls", "the tables")
         self._left[f"requests to {quoting.shown(f'{to}, which is not in {lacking[is_known]}')}"] += 1
 
-    def tell(self) -> None:
-        """Tells what was left out, and if no request was made."""
-        left = [*self._left.items(), ("requests that are neither reads nor writes", self.others)]
+    def tell(self, passed: int) -> None:
+        """Tells what was left out, with so many lines, and if no request was made."""
+        others = "requests that are neither reads nor writes", self.others
+        left = [("lines without a request", passed), *self._left.items(), others]
         streams.tell(*(f"left out: {what}: {times}" for what, times in left if times))
         if not self.made:
             upper = "device of the tables: a trace of the disks below them takes --lower"
@@ -118,8 +121,8 @@ def read_trace(source: streams.Lines, known: Dict[str, str], kept: Kept, times: 
     """Prints the requests of a trace as they come, and tells what was left out. Devices are known by their numbers."""
     events = passed = 0
     for block in source.blocks():
-        # Where the other form of an event may stand in a line, each is looked at.
-        usual = USUAL.findall(block) if EVENT not in block else []
+        usual = USUAL.findall(block) if EVENT not in block else [
+            (number, time, *asked) for time, number, *asked in USUAL_EVENT.findall(block)]
         if len(usual) == block.count("\n") and print_requests(source, usual, known, kept, times):
             events += len(usual)
             continue
@@ -133,9 +136,7 @@ def read_trace(source: streams.Lines, known: Dict[str, str], kept: Kept, times: 
                 print_request(source, found, known, kept, times)
     if not events:
         source.refuse("no request in the trace: give what `blkparse` prints of the devices")
-    if passed:
-        streams.tell(f"left out: lines without a request: {passed}")
-    kept.tell()
+    kept.tell(passed)
 
 
 def print_requests(source: streams.Lines, rows: List[Sequence[str]], known: Dict[str, str], kept: Kept,
@@ -161,8 +162,7 @@ def print_request(source: streams.Lines, event: Sequence[str], known: Dict[str, 
                   times: Optional[streams.Output]) -> None:
     """Prints the request that an event tells of, and its time, or counts it as left out."""
     number, time, what, first, count = event
-    name, start, sectors = known.get(number), source.whole(first), source.whole(count)
-    kind = kind_of(what)
+    name, kind, start, sectors = known.get(number), kind_of(what), source.whole(first), source.whole(count)
     if name not in kept.names:
         kept.leave(number if name is None else f"{name} ({number})", name is not None)
     elif kind:
