@@ -3,8 +3,8 @@ use Rattle.dm_store.proofs.Prelude.{inl, inr, ℕ, Bool, true, false, cond, List
 use Rattle.dm_store.proofs.RestartLemmas.{gone_kept, valid_kept}
 use Rattle.dm_store.proofs.SpeltLemmas.{is_spelled}
 use Rattle.dm_store.proofs.StateLemmas.{are_first, ok_is}
-use Rattle.dm_store.proofs.WalkLemmas.{pair_known}
-use Rattle.std.specs.Prelude.{◌≡◌, ◌+◌, ◌/◌, ◌%◌, ◌<◌, ◌==◌, ◌⊎◌}
+use Rattle.dm_store.proofs.WalkLemmas.{none_there, pair_known}
+use Rattle.std.specs.Prelude.{◌≡◌, ◌+◌, ◌*◌, ◌/◌, ◌%◌, ◌<◌, ◌==◌, ◌⊎◌}
 
 -- ---- headers, from what is read of a store
 
@@ -104,7 +104,7 @@ pair_more : (sectors others : Sectors) (chunk number : ℕ) (wanted : Pair) (row
 pair_more sectors others chunk number wanted (Ok block) more some is same =
     pair_known others chunk number block (more (row_sector chunk (number / 32)) block is) ∙ sym (pair_known sectors chunk number block is) ∙ same
 pair_more sectors others chunk number wanted (Err fault) more some is same =
-    let free : (pair sectors chunk number).new ≡ 0 = ap (λ (r : Result (List ℕ) SectorFault). (pair_in (bytes_or_none r) (number % 32)).new) is in
+    let free : (pair sectors chunk number).new ≡ 0 = ap (λ (r : Result (List ℕ) SectorFault). (pair_in (bytes_or_none r) (number % 32)).new) is ∙ none_there (16 * (number % 32) + 8) in
     absurd (some (ap (λ (p : Pair). p.new) (sym same) ∙ free))
 
 spells_more : (sectors others : Sectors) (store : Store) (chunks : List ℕ) → HasMore sectors others → Spells sectors store chunks → Spells others store chunks

@@ -1,7 +1,9 @@
 -- What the reader knows about a list when it stops, and after one more pair.
-use Rattle.dm_store.proofs.Prelude.{ℕ, Bool, true, false, List, [], Option, Some, None, Result, Ok, Err, refl, sym, ap, subst, ◌∙◌, arith, is_some, eq-eqb, ne_eqb, div-add-mod', mul-le-mul_right, SectorFault, ListFault, Range, Unread, Pair, Store, Sectors, each, pair, pair_in, old_chunks, bytes_or_none, area_count, row_sector, pair_count, rest_count, IsPair, Walked, next_fault, Stored, Refused, ended, ended_by, is_any_again, is_clear, is_clear_in, list_fault, is_listed, is_near, is_placed, list_count, listed, of_count, of_list, rest_fault, number_in}
+use Rattle.dm_store.proofs.Prelude.{ℕ, Bool, true, false, List, [], Option, Some, None, Result, Ok, Err, refl, sym, ap, subst, ◌∙◌, arith, is_some, not, eq-eqb, ne_eqb, div-add-mod', mul-le-mul_right, SectorFault, ListFault, Range, Unread, Pair, Store, Sectors, each, pair, pair_in, old_chunks, bytes_or_none, area_count, row_sector, pair_count, rest_count, IsPair, Walked, next_fault, Stored, Refused, ended, ended_by, is_any_again, is_clear, is_clear_in, list_fault, is_listed, is_near, is_placed, list_count, listed, of_count, of_list, rest_fault, number_in}
+use Rattle.dm_table.specs.io.LittleEndian.{eight_at}
 use Rattle.dm_store.proofs.ListLemmas.{count_full, count_stop, each_more, fault_more, old_more}
-use Rattle.std.specs.Prelude.{◌≡◌, ◌+◌, ◌*◌, ◌/◌, ◌%◌, ◌<◌, ◌≤◌, ◌∷◌, ◌++◌}
+use Rattle.std.proofs.Math.Seq.{drop-nil}
+use Rattle.std.specs.Prelude.{◌≡◌, ◌+◌, ◌*◌, ◌/◌, ◌%◌, ◌<◌, ◌≤◌, ◌==◌, ◌∷◌, ◌++◌}
 
 -- if a list has a fault, the chunks taken from it make no difference
 of_same : (f : Option ListFault) (a b : List ℕ) → (f ≡ None → a ≡ b) → of_list f a ≡ of_list f b
@@ -47,8 +49,13 @@ stopped_list sectors store number f chunks walked less free =
 pub pair_known : (sectors : Sectors) (chunk number : ℕ) (block : List ℕ) → sectors (row_sector chunk (number / 32)) ≡ Ok block → pair sectors chunk number ≡ pair_in block (number % 32)
 pair_known sectors chunk number block is = ap (λ (r : Result (List ℕ) SectorFault). pair_in (bytes_or_none r) (number % 32)) is
 
+-- no bytes spell the number 0
+pub none_there : (at : ℕ) → eight_at [] at ≡ 0
+unfolding eight_at
+none_there at = rw (drop-nil at) refl
+
 pub pair_unread : (sectors : Sectors) (chunk number : ℕ) (fault : SectorFault) → sectors (row_sector chunk (number / 32)) ≡ Err fault → is_listed (pair sectors chunk number) ≡ false
-pair_unread sectors chunk number fault is = ap (λ (r : Result (List ℕ) SectorFault). is_listed (pair_in (bytes_or_none r) (number % 32))) is
+pair_unread sectors chunk number fault is = ap (λ (r : Result (List ℕ) SectorFault). is_listed (pair_in (bytes_or_none r) (number % 32))) is ∙ ap (λ (n : ℕ). not (n == 0)) (none_there (16 * (number % 32) + 8))
 
 -- the rest of the area after a list: all zero pairs, or up to one that isn't
 pub rest_clear : (sectors : Sectors) (chunk number : ℕ) (list : Stored) → each (λ i. is_clear sectors chunk (number + i)) (rest_count chunk number) ≡ true → ended sectors chunk number list ≡ list
