@@ -240,7 +240,6 @@ def test_labels(tally, pile):
                          ("in a member of raid5", {"m0": five[0]}), ("in members of raid5", {"m%d" % number: image for number, image in enumerate(five)}),
                          ("in two images", {"one": gap + inner, "two": gap + gap + inner + gap}), ("in three images without superblocks", {"m%d" % number: image for number, image in enumerate(bare)}),
                          ("on an array", {"disk": gap + upper[0] + gap}), ("on a volume", {"disk": gap + upper[1] + gap}),
-                         ("in a mirror's half, beside zeros", {"m0": gap + member(inner, 1, 0, (0, 1), 7, size=len(inner) // SECTOR) + gap, "m1": gap}),
                          ("in a volume that is here", {"host": around, "disk": gap + inner[:-EXTENT * SECTOR] + gap})):
         pile.hold(images)
         pile.refuses(tally, "a label " + name, "vg9/home", "found by looking through")

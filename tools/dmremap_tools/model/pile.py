@@ -163,9 +163,7 @@ class Pile:
         if all(begin == start and has_all(it) and it.array not in self._members for begin, it in members):
             texts = (text for it in self.volumes for text in it.current)
             is_upper = not members and any(volume.identity in text.on(physical_volume.UPPER) for text in texts)
-            dark = [each.place for each in self._dark() if each.image is not image and members]
-            newer = f"lies in a half, and {dark[0]} may be a newer one (leave that out to take it)" if dark else None
-            return "was on an array or on another volume, as a text says" if is_upper else newer
+            return "was on an array or on another volume, as a text says" if is_upper else None
         return "lies in a member of an md array, as a superblock says"
 
     def _is_shared(self, image: Image, at: int) -> bool:
@@ -227,7 +225,8 @@ class Pile:
 
     def spots(self) -> List[Spot]:
         """All devices that were looked at: images, partitions, arrays and their partitions."""
-        return [*self.spot_of.values(), *(it.spot for it in self.found if it.spot.device not in self.spot_of)]
+        others = [found.spot for found in self.found if found.spot.device not in self.spot_of]
+        return [*self.spot_of.values(), *others]
 
     @property
     def found_on(self) -> Dict[Device, List[Found]]:
@@ -383,7 +382,8 @@ class Pile:
         told = self._told_by_blkid(spot)
         kind, table = told.get("TYPE"), told.get("PTTYPE", "dos")
         other = disk_image.other_table_of(Lenient(spot.device)) or (None if table in ("dos", "gpt") else table)
-        known = SAME.get(kind, kind) if kind and (known or spot.partition) else known
+        if kind and (known or spot.partition):
+            known = SAME.get(kind, kind)
         note = leftover.note() if leftover else OTHER_TABLE.format(other) if other else NOTHING if not known else ""
         self._say(spot, known or "unknown", question or note)
         if not known and spot.image and not spot.partition:
