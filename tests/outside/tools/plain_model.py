@@ -544,12 +544,12 @@ def exceptions_of(store, chunk):
 
 
 def snapshot_sector(origin, store, at, is_careful, is_merging):
-    """A sector of a snapshot: from the store if its list has the chunk, else from the origin. An area of zeros may be one whose pairs
+    """A sector of a snapshot: from the store if its list has the chunk, else from the origin. A list of zeros may be one whose pairs
     were merged, or one that was lost."""
     magic, valid, _, chunk = struct.unpack("<4L", bytes_of(store, 0, 16))
     if (magic, valid) != (0x70416E53, 1):
         raise Gap("a store without a header, or invalid")
-    if is_merging and len(list(exceptions_of(store, chunk))) % (32 * chunk) == 0:
+    if is_merging and not list(exceptions_of(store, chunk)):
         raise Gap("a merge that ended, or whose list is lost")
     pairs = exceptions_of(store, chunk)
     for old, new in list(pairs) if is_careful else pairs:

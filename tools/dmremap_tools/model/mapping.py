@@ -382,7 +382,7 @@ def store_fault(store: Device, chunk: int, is_merging: bool) -> Optional[str]:
     is_new = False
     for start, _, content in list_of(store, chunk):
         is_new = is_new if start else not any(content[:4])
-        if (is_new or is_merging and start and not any(content)) and (is_merging or any(content)):
+        if (is_new or start == chunk * SECTOR and not any(content)) if is_merging else is_new and any(content):
             return UNKNOWN if is_merging else LOST
         if not start and not is_new and content[4:8] != b"\1\0\0\0":
             return ODD
