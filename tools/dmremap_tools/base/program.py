@@ -37,7 +37,7 @@ def add_words(parser: ArgumentParser) -> None:
 def _told(given: str) -> str:
     """A word for dmremap, refused if another program answers --version. One that can't be run is told where it is."""
     with contextlib.suppress(Refusal):
-        path = _chosen(given)
+        path, _ = _chosen(given)
         printed, _, status = ask([path, "--version"]) if path else ("", "", -1)
         if status > 0 or status == 0 and not printed.startswith("dmremap "):
             raise ArgumentTypeError(f"it isn't dmremap, by its --version: {quoting.shown(given)}")
