@@ -2,7 +2,7 @@
 //!
 //! The command line is built one word at a time, by functions that hold nothing else when memory runs out. A new
 //! command is a line in `program` and one in `job_in` or, if the command loads a source, in `loading_job`. A new format
-//! is a word of `FORMATS` and of `format_named`; only `images`, whose FILE is a list of paths, is handled in `source_in`.
+//! is a word of `FORMATS` and of `format_named`; `images`, whose FILE is a list of paths, is handled in `source_in`.
 
 ghost use Rattle.dmremap.specs.Prelude.{[], IfErr, IfOk, List, codes, false, option_map, true, job_words, range_words, source_words, HasApp, TakeFormats, TakesNames, bare_app, before_rule, command_line, flag_rule, format_named, format_rule, formats, loading_app, map_app, metadata_app, name_app, optional_rule, paths_rule, read_app, replay_app, required_rule, sectors_rule, split_app, version_rule, files_at, has_flag, has_lone_hyphen, images_at, job_in, last_of, loading_job, name_job, number_at, number_of, range_at, range_job, read_from, read_job, said_by, source_in, source_job, word_of, IsCommandOf, IsFaultOf, IsJobOf, IsOfKind, IsRefusedFor, IsTaken, IsUntaken, asked_word, fault_from, is_command, is_unknown, status_of};
 ghost use Rattle.clap.specs.Walk.{texts};
