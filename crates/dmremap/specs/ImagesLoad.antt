@@ -129,7 +129,7 @@ IsUnowned paths (owned.Load fault) why = why ≡ refusals.Load fault
 abbrev pub AreImagesUsed : {X : Type 0} → (paths : Delivery) → (old new : X) → Type 0
 AreImagesUsed paths old new = (new ≡ old) ⊎ ((listed : List DiskPath) × (list_in (part_read Paths paths) ≡ Some (Ok listed)))
 
--- PATHS delivered a list of paths, and the heads of its disks opened this stack
+-- PATHS delivered a list of paths, and the heads of the listed disks opened this stack
 pub record AreImagesOpened {P I : Type 0} (past : P → InputPast) (IsSeen : I → Contents → Type 0) (stack : Description) (old new : GroupImages P I) : Type 0 where
   pub listed : list_in (part_read Paths (delivery (past old.list) (past new.list))) ≡ Some (Ok new.disks.paths.items)
   pub opened : (held : Contents) → IsSeen new.disks.images held → ImagesOpen (delivery (past old.list) (past new.list)) held (Loaded (SoundAs stack))

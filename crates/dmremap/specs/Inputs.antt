@@ -8,7 +8,7 @@ delivery_if past (Some old) (Some new) = delivery (past old) (past new)
 delivery_if past (Some old) None = record { bytes = []; stand = Failed }
 delivery_if past None new = record { bytes = []; stand = Failed }
 
--- an input was not read after its end or after a fault, if there is an input
+-- an input, if there is one, was not read after its end or after a fault
 abbrev pub IsReadOnIf : {X : Type 0} → (past : X → InputPast) → (old new : Option X) → Type 0
 IsReadOnIf past (Some old) (Some new) = IsReadOn (past old) (past new)
 IsReadOnIf past (Some old) None = ⊥
@@ -21,7 +21,7 @@ delivered_if past (Some old) (Some new) = Some (delivery (past old) (past new))
 delivered_if past (Some old) None = None
 delivered_if past None new = None
 
--- nothing was read of an input, which may be missing
+-- an input, if there is one, was not read at all
 abbrev pub IsUnasked : {X : Type 0} → (past : X → InputPast) → (old new : Option X) → Type 0
 IsUnasked past (Some old) (Some new) = past new ≡ past old
 IsUnasked past (Some old) None = ⊥

@@ -16,7 +16,7 @@ pub record RangeWords : Type 0 where
   pub from : ℕ
   pub count : Option ℕ
 
--- a job, in which words are texts
+-- a job with the texts of its words in place of the borrowed words
 pub data JobWords : Type 0 where
   map_words : SourceWords → (paths earlier : Option Text) → (status : Bool) → JobWords
   metadata_words : (list : Text) → JobWords

@@ -1,4 +1,4 @@
--- What a load gives: a sound description, or the first fault of the first check that finds any.
+-- The outcome of a load: a sound description, or the first fault of the first check that finds any.
 use Rattle.dmremap.specs.Base.{ℕ, List, Some, Result, IfOk, IfErr, LoadFault, Memory, Source, Disks, Delivery, first_fault, PartRead, TextOf, Refuses, Unread, part_read, DescribesTable, table_checks, DescribesDisks, disk_checks, Description, IsSound, IsRefusedBy, DeviceSpec, DescribesConcise, concise_checks, Format, Lvm, Tables, TableForm, Concise, Table, DescribesGroup, IsRefusedText}
 use Rattle.std.specs.Prelude.{◌≡◌, ◌≢◌, ◌⊎◌, ◌++◌}
 

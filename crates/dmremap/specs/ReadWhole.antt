@@ -43,7 +43,7 @@ abbrev pub stop_exit : Option Stop → Exit
 stop_exit None = Ended Done
 stop_exit (Some stop) = Stopped stop
 
--- the exit of a command that wrote sectors, whether or not a write failed
+-- the exit of a command that wrote sectors: that of `stop_exit`, or a write fault if a write failed
 abbrev pub written_exit : {F : Type 0} → Result (Option Stop) F → Exit
 written_exit (Ok stop) = stop_exit stop
 written_exit (Err fault) = Ended WriteFault

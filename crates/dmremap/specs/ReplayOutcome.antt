@@ -48,7 +48,7 @@ pub record IsOfNone (stack : Description) (number : ℕ) (request : NumberedRequ
 abbrev pub IsOfTop : Description → NumberedRequest → Type 0
 IsOfTop stack request = HasTop stack request.values.device
 
--- a write failed, and `text` is a proper prefix of the text for the first of the requests
+-- a write failed, and `text` is a proper prefix of the text for the first few requests
 pub record IsCutReplay (stack : Description) (start : State) (asked : List Asked) (requests : List NumberedRequest) (text : List ℕ) : Type 0 where
   pub first : List NumberedRequest
   pub later : List NumberedRequest

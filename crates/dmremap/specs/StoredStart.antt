@@ -56,7 +56,7 @@ pub record ReadInTurn {X Y : Type 0} (Opens : Opening → Type 0) (paths : Optio
 
 -- ---- how a run begins
 
--- how a run begins: in the state that earlier requests left, or refused because of a bad start or a fault in these; running out of memory is always allowed
+-- how a run begins: in the state that earlier requests left, or refused for a bad start or a fault in earlier requests; running out of memory is always allowed
 abbrev pub IsBegunAt : Description → (before : Option Delivery) → Start → Result Prepared Refusal → Type 0
 IsBegunAt stack before at (Ok prepared) =
     (state : State) × (at ≡ start.Begins state) × ((start.earlier_from state stack before).ending ≡ Some Done) × (prepared.mapper.state ≡ (start.earlier_from state stack before).state)

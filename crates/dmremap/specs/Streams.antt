@@ -32,7 +32,7 @@ pub record RequestsRead (status : ℕ) (old new : InputPast) : Type 0 where
 
 -- what the command's exit status implies about what was written and flushed
 pub record OutputWritten (status : ℕ) (old new : OutputPast) : Type 0 where
-  -- bytes were only appended to the output, which failed exactly if the status is STATUS_WRITE_FAULT; that one takes precedence over all others
+  -- the output only grew, and failed exactly if the status is STATUS_WRITE_FAULT, which takes precedence over all other statuses
   pub finished : IsFinished old new (status ≡ STATUS_WRITE_FAULT)
   -- the output is flushed once, at the end, unless the command was refused, the output failed or memory ran out
   pub flushed : status ≢ STATUS_REFUSED → status ≢ STATUS_WRITE_FAULT → status ≢ STATUS_MEMORY → IsFlushed old new
@@ -52,7 +52,7 @@ pub record StreamsLeft (status : ℕ) (requests : Moved InputPast) (output messa
   pub written : OutputWritten status output.old output.new
   pub told : MessagesTold status messages.old messages.new
 
--- memory ran out before anything was written or any request was read, and the message that memory ran out was reported
+-- memory ran out, and this was reported, before anything was written or any request was read
 abbrev pub IsOut : (requests : Moved InputPast) → (output messages : Moved OutputPast) → Type 0
 IsOut requests output messages = IsUnmoved output × IsUnmoved requests × IsTold memory_message messages.old messages.new
 

@@ -197,12 +197,12 @@ number_at id rows = option_and_then number_of (first_of id rows)
 abbrev pub range_at : List Row → (device : Text) → RangeWords
 range_at rows device = record { device = device; from = unwrap_or (number_at (codes "from") rows) 0; count = number_at (codes "count") rows }
 
--- DISKS and DEVICE, from two optional words: DEVICE is the last word that was given, and DISKS the one before it
+-- DISKS and DEVICE, from two optional words: DEVICE is the last word that was given, and DISKS the one before it, if any
 abbrev pub last_of : (second third : Option Text) → Option Text × Option Text
 last_of second (Some device) = (second, Some device)
 last_of second None = (None, second)
 
--- the job of `read` from a source; a source that is files requires `--paths`
+-- the job of `read` from a source; a source of files requires `--paths`
 abbrev pub read_from : SourceWords → (paths : Option Text) → RangeWords → Option JobWords
 read_from (file_words format file disks) None range = None
 read_from from paths range = Some (read_words from paths range)
@@ -258,7 +258,7 @@ IsOfKind k (Words error) = kind_of error ≡ k
 IsOfKind k Disks = ⊥
 IsOfKind k Memory = ⊤
 
--- clap refuses the words with this error, which reports no lack of memory
+-- clap refuses the words with this error, which isn't that memory ran out
 pub record IsRefused (words : List Text) (error : Error) : Type 0 where
   pub parsers : Parsers
   pub formats : TakeFormats parsers
