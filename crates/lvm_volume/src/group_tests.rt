@@ -297,7 +297,7 @@ static OF_OWNED: [(usize, &str, Result<&str, OwnedFault>); 7] = [
         "type = \"raid1\"",
         Err(OwnedFault::Disk(0, DiskFault::Foreign)),
     ),
-    // A missing disk, whatever its array; two disks on arrays of other names; and a disk that isn't on an array.
+    // A missing disk, whatever its array; two disks on arrays of other names; a disk that isn't on an array.
     (7, MISSING, Err(OwnedFault::Disk(0, DiskFault::Missing))),
     (7, ON_ARRAY, Err(OwnedFault::Disk(0, DiskFault::Array))),
     (7, ON_MD, Err(OwnedFault::Disk(0, DiskFault::Array))),

@@ -19,7 +19,7 @@ use std::alloc::Global;
 /// Why a metadata text describes no devices and disks if there are images of some of its physical volumes.
 #[derive(Clone, Copy, Debug, PartialEq, Eq, Drop)]
 pub enum OwnedFault {
-    /// The disk with this number, counted from 0, can't be used for the physical volume that has its id.
+    /// The disk with this number, counted from 0, can't be used for the physical volume whose id it carries.
     Disk(usize, DiskFault),
     /// The text is refused for this fault, just as if there were no images.
     Load(LoadFault),

@@ -58,7 +58,7 @@ volumes_named (Striped stripe_size stripes) = []
 volumes_named Zero = []
 volumes_named Error = []
 
--- the segment refers to a physical or logical volume that doesn't exist; `physicals` and `volumes` are how many exist
+-- the segment refers to a physical or logical volume that doesn't exist; `physicals` and `volumes` count those that do
 abbrev pub is_unknown : (physicals volumes : ℕ) → Segment → Bool
 is_unknown physicals volumes segment =
     list_any (λ stripe. not (nat_lt stripe.physical physicals)) (stripes_of segment.target) || list_any (λ position. not (nat_lt position volumes)) (volumes_named segment.target)
@@ -119,7 +119,7 @@ abbrev pub claims_of : Segment → List Claim
 claims_of segment =
     map (λ stripe. claim_on stripe.physical stripe.extent (stripe.extent + segment.count / parts_of segment.target)) (stripes_of segment.target)
 
--- a range extends beyond its physical volume, or overlaps a range in `used` or an earlier one in the list
+-- one of the ranges in the list extends beyond its physical volume, or overlaps a range in `used` or an earlier range in the list
 abbrev pub have_clash : List Physical → List Claim → List Claim → Bool
 have_clash physicals used [] = false
 have_clash physicals used (claim ∷ claims) =

@@ -28,7 +28,7 @@ pub record IsStep (faults : Check → List LoadFault) (old new : FieldReader) (f
 abbrev pub IsPlainStep : (faults : Check → List LoadFault) → (failed : Option LoadFault) → Type 0
 IsPlainStep faults failed = (reader : FieldReader) → IsStep faults reader reader failed
 
--- the faults that a check finds at a required key, for the kind of content that its field has
+-- the faults that a check finds at a required key, whose content must be of this kind
 abbrev pub at_key : Kind → List ℕ → Tree → Check → List LoadFault
 at_key kind key tree check = node_faults check kind tree (node_of key tree.values)
 

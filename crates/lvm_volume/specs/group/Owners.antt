@@ -13,7 +13,7 @@ letters_of text = filter (λ letter. not (letter == code "-")) text
 abbrev pub id_in : Keyed → List ℕ
 id_in physical = letters_of (text_at (codes "id") physical.1)
 
--- the physical volumes in a text, in order; `ids_of`, below, is the ids of these volumes
+-- the physical volumes in a text, in order; `ids_of`, below, lists the ids of these volumes
 abbrev pub physicals_of : Tree → List Keyed
 physicals_of top = sections_at (codes "physical_volumes") (first_section (sections_of top.values)).1
 
@@ -33,7 +33,7 @@ section_of physicals id = option_map (λ physical. physical.1) (find (λ physica
 abbrev pub lay_elsewhere : (name : List ℕ) → Tree → Bool
 lay_elsewhere name physical = starts_with nat_eq (text_at (codes "device") physical) (codes "/dev/md") && not (bytes_eq (text_at (codes "device") physical) name)
 
--- why the disk can't be used for the physical volume that has its id; older releases of lvm2 wrote MISSING among the status
+-- why the disk can't be used for the physical volume whose id it carries; older releases of lvm2 wrote MISSING among the status
 abbrev pub disk_fault : (name : List ℕ) → Option Tree → Option DiskFault
 disk_fault name None = Some Foreign
 disk_fault name (Some physical) = if lists (codes "flags") (codes "MISSING") physical || lists (codes "status") (codes "MISSING") physical then Some Missing else (if lay_elsewhere name physical then Some Array else None)

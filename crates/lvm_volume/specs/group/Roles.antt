@@ -84,8 +84,8 @@ end_of (Some segment) = segment.start + segment.count
 abbrev pub extents_of : List Segment → ℕ
 extents_of segments = end_of (slice_get segments (length segments - 1))
 
--- the snapshot isn't the only segment of its volume, or its origin is a record, or its store has a role besides that of its store, or the snapshot doesn't have
--- as many extents as its origin
+-- the snapshot isn't the only segment of its volume, or its origin is a record, or its store also has another role, or the snapshot has more or fewer extents
+-- than its origin
 abbrev pub is_bad_target : List Volume → List Role → (alone : Bool) → (count : ℕ) → SegmentType → Bool
 is_bad_target volumes all alone count (Snapshot chunk_size origin store) =
     not alone

@@ -184,8 +184,7 @@ unnamed group = flat_map (unnamed_volume group.name) (members_of group)
 abbrev pub tables_of : Group → List DeviceSpec × List Disk
 tables_of group = (flat_map (devices_in group) (members_of group), map physical_disk group.physicals)
 
--- What the checks ensure: numbers fit 64 bits when counted in sectors, stripes are on physical volumes that exist, and the origins of snapshots have the role
--- Origin
+-- What the checks ensure: numbers of sectors fit 64 bits, stripes are on physical volumes that exist, and the origins of snapshots have the role Origin
 
 -- the stripe is on a physical volume that exists, and its first sector on the disk fits 64 bits
 pub record IsStripeIn (extent_size : ℕ) (physicals : List Physical) (stripe : Stripe) : Type 0 where

@@ -2,7 +2,7 @@
 //! logical volumes, of which one can be its origin and the other its own store.
 //!
 //! The first segment in the text that the check refuses is at fault. A text may contain segments in any order, so the
-//! first one is that on the least line, not that with the least number.
+//! first one is the one on the least line, not the one with the least number.
 
 ghost use Rattle.lvm_volume.specs.Prelude.{None, length, not, nat_lt, result_err, list_any, Unknown, IsChecked, first_of, at_line, is_unknown, least_line, least_line_of, snapshot_faults_in, test_of, is_bad_snapshot, is_bad_target};
 ghost use Rattle.std.specs.Prelude.{◌≡◌, ◌==◌};
@@ -19,7 +19,7 @@ use std::alloc::Global;
 /// A check of one segment.
 #[derive(Drop)]
 enum SegmentCheck<'g> {
-    /// The segment refers to a volume that doesn't exist, when there are `physicals` and `volumes` of them.
+    /// The segment refers to a volume that doesn't exist; `physicals` and `volumes` count those that do.
     Unknown {
         physicals: usize,
         volumes: usize,

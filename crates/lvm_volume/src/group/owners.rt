@@ -19,7 +19,7 @@ pub struct Owners<'a> {
     pub disks: &'a [DiskPath],
 }
 
-/// Why a disk can't be used for the physical volume that has the same id.
+/// Why a disk can't be used for the physical volume whose id it carries.
 #[derive(Clone, Copy, Debug, PartialEq, Eq, Drop)]
 pub enum DiskFault {
     /// No physical volume in the text has the id in the header of the disk's image.
@@ -121,7 +121,7 @@ fn lay_elsewhere(name: &str, physical: &Section<'_>) -> bool
     device.as_bytes().starts_with(b"/dev/md") && device != name
 }
 
-/// Why the disk of this name can't be used for the physical volume that has its id; `None` if it can.
+/// Why the disk of this name can't be used for the physical volume whose id it carries; `None` if it can.
 fn disk_fault(name: &str, physical: Option<&Section<'_>>) -> Option<DiskFault>
     ensures { result ≡ disk_fault name.now (option_map (λ section. section.now) physical.entry) }
 {
@@ -149,7 +149,7 @@ fn name_of<'a>(disks: &'a [DiskPath], disk: usize) -> &'a str
     }
 }
 
-/// The number of the first disk that can't be used for the physical volume that has its id, and the reason.
+/// The number of the first disk that can't be used for the physical volume whose id it carries, and the reason.
 pub(crate) fn first_untaken<'s, 'a>(
     owners: &Owners<'_>,
     physicals: &[(&'a str, &'s Section<'a>)],

@@ -211,7 +211,7 @@ fn stripes_at(
     }
 }
 
-/// Reads the stripe size of a segment with `parts` stripes; a single stripe may lack one, and 0 is returned then.
+/// Reads the stripe size of a segment with `parts` stripes; returns 0 for a single stripe without a stripe size.
 fn stripe_size_at(
     reader: &mut FieldReader,
     segment: &Section<'_>,

@@ -21,7 +21,7 @@ const REQUESTS: &str =
 const ALL: u64 = 41;
 
 /// How many requests are parsed in the buffer: all but the first, because nothing was read before it, and the last
-/// seven, because the buffer then holds fewer than 64 bytes.
+/// seven, because fewer than 64 bytes are left in the buffer at each of them.
 const QUICK: u64 = ALL - 1 - 7;
 
 /// Counts the requests that are announced to it and those handed to it, and the most that were announced ahead.

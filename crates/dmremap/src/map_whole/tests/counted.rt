@@ -1,4 +1,4 @@
-//! `Counted` over readers and writers of std: each call makes exactly one call of the counted one, and repeats none.
+//! `Counted` over readers and writers of std: each call makes one call of the reader or writer, and repeats none.
 //!
 //! A script says what each call of a fake reader or writer returns, and the fake counts its calls. A row contains a
 //! script and the expected results.

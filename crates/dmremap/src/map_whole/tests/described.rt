@@ -1,6 +1,6 @@
 //! Devices written as texts: the exact bytes of table text and of the concise form, also if an output fails.
 //!
-//! These texts are refused by a load, or contain more than is printed. All other texts are tested on the built program,
+//! A load refuses these texts, or they contain more than is printed. All other texts are tested on the built program,
 //! with the commands `table` and `concise`.
 
 ghost use Rattle.dmremap.specs.Prelude.{length};

@@ -303,8 +303,8 @@ fn end_of(text: &str, fails: bool) -> Option<usize> {
     if fails { Some(text.len()) } else { None }
 }
 
-/// How many letters the source has, and whether reading it fails after them; the same for the disk list; and the
-/// message. A single letter is a fault of syntax; 1,048,577 letters are too long.
+/// How many letters the source has, and whether reading fails at its end; both for the disk list; then the message.
+/// A single letter is a fault of syntax; 1,048,577 letters are too long.
 static PARTS: [(usize, bool, usize, bool, &[u8]); 10] = [
     (1, false, 0, true, b"dmremap: disks: read\n"),
     (1, false, 1_048_577, false, b"dmremap: disks: long\n"),

@@ -22,7 +22,7 @@ static MEETING: [&str; 40] = [
     "h87", "j3", "k81", "p14", "q36", "a2", "b71", "d98", "f70", "g92", "l25", "q46", "r68",
 ];
 
-/// What follows a name in a request, and then more requests, longer than the longest name.
+/// What follows a name in a request, and more requests; this text is longer than the longest name.
 const REST: &str =
     " 0 1\nR n 0 1\nR n 0 1\nR n 0 1\nR n 0 1\nR n 0 1\nR n 0 1\nR n 0 1\nR n 0 1\nR n 0 1\n\
     R n 0 1\nR n 0 1\nR n 0 1\nR n 0 1\nR n 0 1\nR n 0 1\nR n 0 1\nR n 0 1\nR n 0 1\n";

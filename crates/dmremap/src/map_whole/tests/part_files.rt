@@ -13,7 +13,7 @@ fn part_len(alloc: Global, script: &[Step], calls: &Cell<usize>) -> Option<usize
     Some(text.len())
 }
 
-/// What each read of a file returns, how many bytes the part has, and how many reads are made to find that.
+/// What each read of a file returns, how many bytes the part has, and how many reads are made in all.
 static READS: [(Step, Step, Step, Option<usize>, usize); 5] = [
     (Step::Moves(0), Step::Moves(4), Step::Fails, Some(0), 1),
     (Step::Moves(4), Step::Moves(0), Step::Moves(4), Some(4), 2),
