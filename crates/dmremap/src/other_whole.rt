@@ -39,7 +39,7 @@ use std::mem::forget;
 /// | 3 | a request was bad, or named no top device; the requests before it were answered |
 /// | 4 | reading requests failed; the requests before the fault were answered |
 /// | 5 | writing or flushing the output failed |
-/// | 6 | memory ran out; nothing was written or flushed, or it ran out at a request, and the requests before that one were answered |
+/// | 6 | memory ran out: nothing was written or flushed, or only the requests before some request were answered |
 /// | 7 | a sector can't be read; the sectors before it were written |
 ///
 /// At most one message is written, after the output was flushed.
