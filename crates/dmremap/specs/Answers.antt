@@ -17,23 +17,23 @@ end_of exit = record { message = exit_message exit; status = exit_status exit }
 abbrev pub refused_by : List ℕ → End
 refused_by message = record { message = message; status = STATUS_REFUSED }
 
--- a command ended as `end` says: it exited with that status and reported that message
+-- the command exited with the status of `end`, and reported its message
 abbrev pub EndsSo : End → (messages : Moved OutputPast) → (status : ℕ) → Type 0
 EndsSo end messages status = (status ≡ end.status) × IsTold end.message messages.old messages.new
 
--- what a command answers: only a message and a status; or a text, and then how it ends (None: the input doesn't settle that)
+-- what a command answers: either a message and a status alone, or a text and then an end, which is None if the input doesn't determine how the command ends
 pub data Answer : Type 0 where
   Tells : End → Answer
   Writes : (text : List ℕ) → Option End → Answer
 
--- the output failed: at a write, after a proper prefix of the text; or at the flush, after the whole text, and only where `end` is settled
+-- the output failed either at a write, after a proper prefix of `text`, or at the flush, after all of `text`, which happens only if the end is known
 abbrev pub FailedAfter : (text : List ℕ) → Option End → (output : Moved OutputPast) → Type 0
 FailedAfter text end output =
     FailedWhere (IsCutShort text (written_since output.old output.new)) ((text ≡ written_since output.old output.new) × (last : End) × (end ≡ Some last)) output.old.flushes output.new.flushes
 
--- what a command did, for an answer that the delivered requests allow. Told: it reported how it ends, and asked nothing of the output or of the requests.
--- Wrote: it wrote and flushed the text, and reported how it ends. Failed: a write or the flush failed. OutOfMemory: memory ran out before anything was asked of
--- the output or of the requests
+-- what a command did, for an answer that `Gives` allows for the delivered requests. Told: it reported its end, wrote nothing and read no requests. Wrote: it
+-- wrote and flushed the text, and reported its end. Failed: a write or the flush failed. OutOfMemory: memory ran out before anything was written or any request
+-- was read
 pub data Answers (Gives : (requests : Delivery) → Answer → Type 0) (requests : Moved InputPast) (output messages : Moved OutputPast) (status : ℕ) : Type 0 where
   Told : (end : End) → Gives (delivery requests.old requests.new) (Tells end) → EndsSo end messages status → IsUnmoved output → IsUnmoved requests
       → Answers Gives requests output messages status
@@ -47,7 +47,7 @@ pub data Answers (Gives : (requests : Delivery) → Answer → Type 0) (requests
 abbrev pub IsOne : (Answer → Type 0) → Type 0
 IsOne Is = (a b : Answer) → Is a → Is b → a ≡ b
 
--- the answer says how the command ends, and its text, if it has one, is not followed by running out of memory
+-- the answer determines how the command ends, and that isn't running out of memory after a text
 abbrev pub IsSettled : Answer → Type 0
 IsSettled (Tells end) = Unit {0}
 IsSettled (Writes text (Some end)) = end.status ≢ STATUS_MEMORY
@@ -57,6 +57,6 @@ IsSettled (Writes text None) = ⊥
 abbrev pub IsOneSettled : (Answer → Type 0) → Type 0
 IsOneSettled Is = (a b : Answer) → IsSettled a → IsSettled b → Is a → Is b → a ≡ b
 
--- the request input of a command that reads no requests
+-- the input of requests for a command that reads none
 abbrev pub unread : Moved InputPast
 unread = let past : InputPast = record { handed = []; faults = 0; ends = 0 } in record { old = past; new = past }

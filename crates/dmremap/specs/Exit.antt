@@ -30,7 +30,7 @@ refusal_status refusal = STATUS_REFUSED
 abbrev pub IsOutOfMemory : Refusal → Type 0
 IsOutOfMemory refusal = refusal_status refusal ≡ STATUS_MEMORY
 
--- the exit status of a run that ended like this
+-- the exit status of a run of requests with this ending
 abbrev pub ending_status : Ending → ℕ
 ending_status Done = STATUS_DONE
 ending_status (BadRequest number word) = STATUS_BAD_REQUEST
@@ -45,7 +45,7 @@ exit_status (exits.NotTop number) = STATUS_BAD_REQUEST
 exit_status exits.Memory = STATUS_MEMORY
 exit_status (exits.Stopped stop) = STATUS_STOPPED
 
--- the exit is neither a failed output nor running out of memory
+-- the exit reports neither a failed output nor that memory ran out
 abbrev pub IsPlain : Exit → Type 0
 IsPlain exit = (exit_status exit ≢ STATUS_WRITE_FAULT) × (exit_status exit ≢ STATUS_MEMORY)
 
@@ -73,7 +73,7 @@ exit_message (exits.Stopped stop) = stop_message stop
 
 -- ---- the output at an exit
 
--- the command was refused, and so wrote nothing
+-- whether the command was refused, and so wrote nothing
 abbrev pub is_refused : Exit → Bool
 is_refused (exits.Refused refusal) = true
 is_refused _ = false
@@ -84,7 +84,7 @@ is_flushed (exits.Refused refusal) = false
 is_flushed (exits.Ended WriteFault) = false
 is_flushed _ = true
 
--- how many writes failed before this exit
+-- how many writes failed before this exit: one if the exit is a write fault, else none
 abbrev pub failed_writes : Exit → ℕ
 failed_writes (exits.Ended ending) = write_faults ending
 failed_writes _ = 0

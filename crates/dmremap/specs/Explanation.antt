@@ -5,25 +5,25 @@ use Rattle.std.specs.Prelude.{◌∷◌, ◌&&◌, ◌||◌, if◌then◌else◌
 
 -- ---- the word and the part of a message
 
--- a text split at the first occurrence of `mark`: what comes before it and what comes after it; None if `mark` doesn't occur
+-- a text split at the first occurrence of `mark`, into the bytes before the mark and the bytes after it; None if the mark doesn't occur
 unfoldable pub cut_at : (mark : Text) → Text → Option (Text × Text)
 cut_at mark [] = None
 cut_at mark (x ∷ xs) =
     if bytes_eq (take (length mark) (x ∷ xs)) mark then Some ([], drop (length mark) (x ∷ xs))
     else option_map (λ cut. (x ∷ cut.0, cut.1)) (cut_at mark xs)
 
--- the text before the first `mark`, and below, the text after it; the whole text if `mark` doesn't occur
+-- the text before the first `mark`, or the whole text if there is no mark; `after`, below, is the text after the first mark, or the whole text
 abbrev pub before : (mark : Text) → Text → Text
 before mark text = option_map_or (λ cut. cut.0) (cut_at mark text) text
 
 abbrev pub after : (mark : Text) → Text → Text
 after mark text = option_map_or (λ cut. cut.1) (cut_at mark text) text
 
--- the word of a message: its end, without ` at PLACE`. The message may lack `dmremap: `, or its part too, and be the word alone
+-- the word of a message: the end of the message, without ` at PLACE`. The message may lack `dmremap: `, or lack its part too and consist of the word alone
 abbrev pub word_in : Text → Text
 word_in message = before (codes " at ") (after (codes ": ") (after (codes ": ") message))
 
--- the part that a message is about: its first word after `dmremap: `, without the name or number that may follow
+-- the part that a message is about: the first word after `dmremap: `, without the name or number that may follow that word
 abbrev pub part_in : Text → Text
 part_in message = before (codes " ") (before (codes ": ") (after (codes "dmremap: ") message))
 
@@ -33,19 +33,19 @@ part_in message = before (codes " ") (before (codes ": ") (after (codes "dmremap
 abbrev pub Entry : Type 0
 Entry = (Text × Text) × Text × Text
 
--- the entry explains this word, in messages of `part` if one is given, or else of any part
+-- the entry explains this word, in messages of `part` if a part is given, or else in messages of any part
 abbrev pub fits : (part : Option Text) → (word : Text) → Entry → Bool
 fits (Some part) word entry = bytes_eq entry.1 word && (bytes_eq entry.0.0 part || bytes_eq entry.0.1 part)
 fits None word entry = bytes_eq entry.1 word
 
--- the manual's entries for the first words, and below, its entries for the other words
+-- the manual's entries for the first words; `later_entries`, below, holds the entries for all other words
 unfoldable pub first_entries : List Entry
 first_entries = map (λ entry. ((entry.0.0.now, entry.0.1.now), entry.1.now, entry.2.now)) FIRST_ENTRIES
 
 unfoldable pub later_entries : List Entry
 later_entries = map (λ entry. ((entry.0.0.now, entry.0.1.now), entry.1.now, entry.2.now)) LATER_ENTRIES
 
--- whichever of the two tables holds the entries for this word
+-- the table that holds the entries for this word: the first one if it has any, or else the second one
 abbrev pub table_of : (word : Text) → List Entry
 table_of word = if list_any (fits None word) first_entries then first_entries else later_entries
 
@@ -53,7 +53,7 @@ table_of word = if list_any (fits None word) first_entries then first_entries el
 abbrev pub part_meant : (message word : Text) → List Entry → Option Text
 part_meant message word entries = if list_any (fits (Some (part_in message)) word) entries then Some (part_in message) else None
 
--- the texts of the entries that fit, with an empty line between two of them
+-- the texts of the entries that fit, separated by empty lines
 abbrev pub texts_of : (Fits : Entry → Bool) → List Entry → Text
 texts_of Fits entries = join_with_byte (code "\n") (map (λ entry. entry.2) (filter Fits entries))
 

@@ -14,7 +14,7 @@ abbrev pub listed_text : Contents → Result (List DiskPath) LoadFault → Resul
 listed_text held (Ok paths) = heads_text paths (heads_of (listed_disks paths held) (length paths))
 listed_text held (Err fault) = Err (load_message fault)
 
--- the LVM2 text in the heads of the disks of PATHS, or a message; None while what PATHS delivered doesn't settle it
+-- the LVM2 text in the heads of the disks of PATHS, or a message; None if the delivered bytes don't determine either
 abbrev pub images_text : (paths : Delivery) → Contents → Option (Result (List ℕ) (List ℕ))
 images_text paths held = option_map (listed_text held) (list_in (part_read Paths paths))
 

@@ -1,4 +1,4 @@
--- What the inputs of a run delivered, where one may be missing.
+-- What the inputs of a run delivered, if one of them may be missing.
 use Rattle.dmremap.specs.Base.{[], Option, None, Some, Failed, Delivery, InputPast, delivery, IsReadOn}
 use Rattle.std.specs.Prelude.{◌≡◌}
 
@@ -21,7 +21,7 @@ delivered_if past (Some old) (Some new) = Some (delivery (past old) (past new))
 delivered_if past (Some old) None = None
 delivered_if past None new = None
 
--- nothing was asked of an input, which may be missing
+-- an input, if there is one, was not read at all
 abbrev pub IsUnasked : {X : Type 0} → (past : X → InputPast) → (old new : Option X) → Type 0
 IsUnasked past (Some old) (Some new) = past new ≡ past old
 IsUnasked past (Some old) None = ⊥

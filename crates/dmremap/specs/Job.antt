@@ -1,22 +1,22 @@
--- A job as its command and the texts of its words.
+-- A job, with texts in place of its borrowed words.
 use Rattle.dmremap.specs.Base.{ℕ, Bool, Option, option_map, NameParts, Format, Job, TableForm, Text}
 use Rattle.dmremap.specs.declared.job.Job.TheVariants as job
 use Rattle.dmremap.specs.declared.job.SectorRange.{SectorRange}
 use Rattle.dmremap.specs.declared.job.Source.{Source}
 use Rattle.dmremap.specs.declared.job.Source.TheVariants as source
 
--- what a command loads: a file, perhaps with a disk list, or a list of images; each named by its word's text
+-- what a command loads: a file, perhaps with a disk list, or a list of images; each path is the text of a word
 pub data SourceWords : Type 0 where
   file_words : Format → (file : Text) → (disks : Option Text) → SourceWords
   image_words : (list : Text) → SourceWords
 
--- the sectors that `read` is asked for, and the device's name; without a count, all up to the device's end
+-- the sectors to read for `read`, and the name of their device; without a count, all sectors up to the end of the device
 pub record RangeWords : Type 0 where
   pub device : Text
   pub from : ℕ
   pub count : Option ℕ
 
--- a job, with the texts of its words
+-- a job with the texts of its words in place of the borrowed words
 pub data JobWords : Type 0 where
   map_words : SourceWords → (paths earlier : Option Text) → (status : Bool) → JobWords
   metadata_words : (list : Text) → JobWords
@@ -28,12 +28,12 @@ pub data JobWords : Type 0 where
   split_words : Text → JobWords
   explain_words : Text → JobWords
 
--- a source, with the texts of its words
+-- a source with its borrowed words replaced by their texts
 abbrev pub source_words : Source → SourceWords
 source_words (source.Files format file disks) = file_words format file.now (option_map (λ path. path.now) disks)
 source_words (source.Images list) = image_words list.now
 
--- a range of sectors, with the text of its device's name
+-- a range of sectors with its borrowed device name replaced by its text
 abbrev pub range_words : SectorRange → RangeWords
 range_words range = record { device = range.device.now; from = range.from; count = range.count }
 

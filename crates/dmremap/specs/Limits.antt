@@ -1,4 +1,4 @@
--- The values of the limits and of the exit statuses.
+-- The values of the program's limits and exit statuses.
 use Rattle.dm_table.specs.declared.load.part_input.TheConstants.{MOST_PART_BYTES}
 use Rattle.dm_stack.specs.declared.checks.graph.TheConstants.{MOST_DEPTH}
 use Rattle.dm_stack.specs.declared.checks.limits.TheConstants.{MOST_CHUNK, MOST_DEVICES, MOST_DISKS, MOST_LENGTH, MOST_LINES, MOST_STRIPES}

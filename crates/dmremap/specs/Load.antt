@@ -1,4 +1,4 @@
--- What a load gives: a sound description, or the first fault of the first check that finds any.
+-- The outcome of a load: a sound description, or the first fault of the first check that finds any.
 use Rattle.dmremap.specs.Base.{ℕ, List, Some, Result, IfOk, IfErr, LoadFault, Memory, Source, Disks, Delivery, first_fault, PartRead, TextOf, Refuses, Unread, part_read, DescribesTable, table_checks, DescribesDisks, disk_checks, Description, IsSound, IsRefusedBy, DeviceSpec, DescribesConcise, concise_checks, Format, Lvm, Tables, TableForm, Concise, Table, DescribesGroup, IsRefusedText}
 use Rattle.std.specs.Prelude.{◌≡◌, ◌≢◌, ◌⊎◌, ◌++◌}
 
@@ -7,7 +7,7 @@ pub data Load : Type 0 where
   RefusedBy : LoadFault → Load
   SoundAs : Description → Load
 
--- the result is an outcome that `Gives` allows: a sound stack or a fault; running out of memory is always allowed
+-- the result of a load is a sound stack or a fault that `Gives` allows; running out of memory is always allowed
 pub record Loads (Gives : Load → Type 0) (result : Result Description LoadFault) : Type 0 where
   pub sound : IfOk result (λ stack. Gives (SoundAs stack))
   pub refused : IfErr result (λ fault. fault.kind ≢ Memory → Gives (RefusedBy fault))
@@ -19,7 +19,7 @@ abbrev pub DescribesDevices : TableForm → List ℕ → List DeviceSpec → Typ
 DescribesDevices Table text devices = DescribesTable text devices
 DescribesDevices Concise text devices = DescribesConcise text devices
 
--- the checks of a text of devices alone, before the stack is checked
+-- the checks of the text of devices alone; the checks of the stack come later
 abbrev pub device_checks : TableForm → List ℕ → List (List LoadFault)
 device_checks Table text = table_checks text
 device_checks Concise text = concise_checks text
@@ -29,19 +29,19 @@ pub record Describes (form : TableForm) (source list : List ℕ) (description : 
   pub devices : DescribesDevices form source description.devices
   pub disks : DescribesDisks list description.disks
 
--- the fault is the first one in the two texts, where the source is checked first, or a fault of the stack that they describe
+-- the fault is either the first one in the two texts, of which the source is checked first, or a fault of the stack that they describe
 abbrev pub GivesFault : TableForm → List ℕ → List ℕ → LoadFault → Type 0
 GivesFault form source list fault =
     (first_fault (device_checks form source ++ disk_checks list) ≡ Some fault)
     ⊎ ((description : Description) × Describes form source list description × IsRefusedBy description fault)
 
--- the outcomes of loading the two texts
+-- the outcomes of loading the text of a source and the text of its disk list
 abbrev pub TextsGive : TableForm → List ℕ → List ℕ → Load → Type 0
 TextsGive form source list (RefusedBy fault) = GivesFault form source list fault
 TextsGive form source list (SoundAs description) =
     Describes form source list description × IsSound description
 
--- the outcomes of loading two parts: a part that can't be read refuses the load before any text is checked
+-- the outcomes of loading a source and a disk list: if one of them can't be read, the load is refused before either text is checked
 abbrev pub TextPartsGive : TableForm → PartRead → PartRead → Load → Type 0
 TextPartsGive form (Refuses fault) list load = load ≡ RefusedBy fault
 TextPartsGive form (TextOf source) (Refuses fault) load = load ≡ RefusedBy fault
@@ -55,14 +55,14 @@ TextPartsGive form Unread list load = ⊥
 abbrev pub DescribesGroupAs : List ℕ → Description → Type 0
 DescribesGroupAs source description = DescribesGroup source (description.devices, description.disks)
 
--- the outcomes of loading an LVM2 text: a fault of its own, a fault of the stack that it describes, or a sound stack
+-- the outcomes of loading an LVM2 text: a fault of the text, a fault of the stack that it describes, or a sound stack
 abbrev pub MetadataGives : List ℕ → Load → Type 0
 MetadataGives source (RefusedBy fault) =
     IsRefusedText source fault
     ⊎ ((description : Description) × DescribesGroupAs source description × IsRefusedBy description fault)
 MetadataGives source (SoundAs description) = DescribesGroupAs source description × IsSound description
 
--- the outcomes of loading one part: if it can't be read, the load is refused before any text is checked
+-- the outcomes of loading an LVM2 text from a part: if the part can't be read, the load is refused, and no text is checked
 abbrev pub MetadataPartGives : PartRead → Load → Type 0
 MetadataPartGives (Refuses fault) load = load ≡ RefusedBy fault
 MetadataPartGives (TextOf source) load = MetadataGives source load
@@ -70,7 +70,7 @@ MetadataPartGives Unread load = ⊥
 
 -- ---- a load in any format
 
--- the outcomes of loading what the source and the disk list delivered in this format; an LVM2 text has no disk list
+-- the outcomes of a load in this format, for the bytes that the source and the disk list delivered; an LVM2 text has no disk list
 abbrev pub PartsGive : Format → Delivery → Delivery → Load → Type 0
 PartsGive Lvm source disks load = MetadataPartGives (part_read Source source) load
 PartsGive (Tables form) source disks load = TextPartsGive form (part_read Source source) (part_read Disks disks) load

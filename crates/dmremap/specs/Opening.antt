@@ -1,21 +1,21 @@
--- How a command opens, and what it answers then.
+-- How a command opens, and what it answers once it has opened.
 use Rattle.dmremap.specs.Base.{List, ℕ, Result, Ok, Err, Memory, Delivery, Description, Refused, Refusal, Format}
 use Rattle.dmremap.specs.declared.exit.Refusal.TheVariants as refusals
 use Rattle.dmremap.specs.Answers.{Answer, Tells, end_of, refused_by}
 use Rattle.dmremap.specs.Load.{Load, PartsGive, RefusedBy, SoundAs}
 use Rattle.std.specs.Prelude.{◌≡◌, ◌≢◌}
 
--- how a command opens: with the outcome of a load, or with a message that stops it before a load
+-- how a command opens: with the outcome of a load, or with a message that stops the command before any load
 pub data Opening : Type 0 where
   Loaded : Load → Opening
   Stops : (message : List ℕ) → Opening
 
--- the source and the disk list open as the outcome of their load, and never with a message
+-- a source and a disk list open with the outcome of their load, and never with a message
 abbrev pub PartsOpen : Format → (source disks : Delivery) → Opening → Type 0
 PartsOpen format source disks (Loaded load) = PartsGive format source disks load
 PartsOpen format source disks (Stops message) = ⊥
 
--- how a command answers once opened: it reports a refused load or a message, and for a stack it answers what `Makes` allows
+-- how a command answers an opening: it reports the fault or the message that stopped it, or, if a stack was loaded, it answers as `Makes` allows
 abbrev pub OpeningMakes : (Makes : Description → Answer → Type 0) → Opening → Answer → Type 0
 OpeningMakes Makes (Loaded (RefusedBy fault)) answer = answer ≡ Tells (end_of (Refused (refusals.Load fault)))
 OpeningMakes Makes (Loaded (SoundAs stack)) answer = Makes stack answer

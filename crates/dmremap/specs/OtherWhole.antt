@@ -32,7 +32,7 @@ abbrev pub is_reading : JobWords → Bool
 is_reading (read_words from paths range) = true
 is_reading _ = false
 
--- what a job answers for a stack: it prints the devices or the report, replays requests on the disks, or reads sectors of a device
+-- what a job answers for a stack: the devices, the report, the answers of a replay on the stack's disks, or the bytes of a device's sectors
 abbrev pub JobMakes : JobWords → (starts : Description → Start) → (reads : RangeWords → Description → Option Answer) → (requests : Delivery) → Description → Answer → Type 0
 JobMakes (print_words form from) starts reads requests stack = SaidBy (λ said. Prints (written_as form stack.devices) ≡ said)
 JobMakes (check_words from) starts reads requests stack = SaidBy (ReportSays stack)
@@ -40,7 +40,7 @@ JobMakes (replay_words from paths) starts reads requests stack = ReplaysOver (st
 JobMakes (read_words from paths range) starts reads requests stack = λ answer. reads range stack ≡ Some answer
 JobMakes _ starts reads requests stack = λ answer. ⊥
 
--- what a job answers: its words alone decide if it loads nothing, or else the stack that it opens
+-- what a job answers: a job that loads nothing answers from its words alone, any other job from the stack that it opens
 abbrev pub JobAnswers : JobWords → (Opens : Opening → Type 0) → (starts : Description → Start) → (reads : RangeWords → Description → Option Answer) → (requests : Delivery) → Answer → Type 0
 JobAnswers (name_words parts) Opens starts reads requests = SaidBy (λ said. name_said (built parts) ≡ said)
 JobAnswers (split_words name) Opens starts reads requests = SaidBy (SplitSays name)

@@ -1,4 +1,4 @@
--- Names that contracts cite, here and in crates above, re-exported from one place.
+-- Names that contracts cite, in this crate and in crates above, re-exported from one place.
 pub use Rattle.dm_map.specs.Prelude.{AreLevelsEnough, BlockUnit, Description, IsSound, refl, start_state}
 pub use Rattle.dm_table.specs.Std.{Bool, Err, IfErr, IfOk, IfSome, IsErr, IsErrAnd, List, None, Ok, OnErr, OnOk, Option, ReadConsumes, Result, Some, [], codes, false, length, list_any, map, option_map, slice_get, true}
 pub use Rattle.dmremap.specs.Answers.{Answer, Answers, End, Failed, FailedAfter, IsOne, IsOneSettled, IsSettled, OutOfMemory, Tells, Told, Writes, end_of, refused_by, unread}

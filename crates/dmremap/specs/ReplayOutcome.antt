@@ -4,7 +4,7 @@ use Rattle.dm_replay.specs.declared.value_run.ValueRun.{ValueRun}
 use Rattle.dmremap.specs.declared.exit.Exit.TheVariants as exits
 use Rattle.std.specs.Prelude.{◌≡◌, ◌∷◌, ◌++◌}
 
--- a request to a stack, as one that was played to its end and not halted
+-- the record of a request that was played to its end, and not halted
 abbrev pub asked_of : Description → NumberedRequest → Asked
 asked_of stack request = record {
   number = request.number;
@@ -15,7 +15,7 @@ asked_of stack request = record {
   halted_after = None;
 }
 
--- the text for a request that follows those in `asked`: a line for each maximal run of the values that its sectors answer
+-- the text for a request that is played after those in `asked`: a line for each maximal run of its sectors with the same answer
 pub record IsAnswer (stack : Description) (start : State) (asked : List Asked) (request : NumberedRequest) (text : List ℕ) : Type 0 where
   pub top : HasTop stack request.values.device
   pub runs : List ValueRun
@@ -30,7 +30,7 @@ AreAnswered stack start asked (request ∷ requests) text =
     (first : List ℕ) × (rest : List ℕ) × IsAnswer stack start asked request first
     × AreAnswered stack start (asked ++ asked_of stack request ∷ []) requests rest × (first ++ rest ≡ text)
 
--- the requests before the first one that is not answered, because of `IsCause`, and the text for them
+-- `text` is the text for the requests before the first one that isn't answered, and `IsCause` holds for that one
 pub record StopsAt (IsCause : NumberedRequest → Type 0) (stack : Description) (start : State) (asked : List Asked) (requests : List NumberedRequest) (text : List ℕ) : Type 0 where
   pub first : List NumberedRequest
   pub last : NumberedRequest
@@ -39,7 +39,7 @@ pub record StopsAt (IsCause : NumberedRequest → Type 0) (stack : Description) 
   pub told : AreAnswered stack start asked first text
   pub cause : IsCause last
 
--- the request has this number, and its device is not a top device
+-- the request has the number `number`, and its device is not a top device
 pub record IsOfNone (stack : Description) (number : ℕ) (request : NumberedRequest) : Type 0 where
   pub of_number : request.number ≡ number
   pub none : HasTop stack request.values.device → ⊥
@@ -48,7 +48,7 @@ pub record IsOfNone (stack : Description) (number : ℕ) (request : NumberedRequ
 abbrev pub IsOfTop : Description → NumberedRequest → Type 0
 IsOfTop stack request = HasTop stack request.values.device
 
--- a write failed: `text` is a proper prefix of the text for some first requests
+-- a write failed, and `text` is a proper prefix of the text for the first few requests
 pub record IsCutReplay (stack : Description) (start : State) (asked : List Asked) (requests : List NumberedRequest) (text : List ℕ) : Type 0 where
   pub first : List NumberedRequest
   pub later : List NumberedRequest
@@ -64,7 +64,7 @@ pub record HasPlayed (stack : Description) (start : State) (old new : List Asked
   pub asked : new ≡ old ++ map (asked_of stack) requests
   pub told : AreAnswered stack start old requests (since before after)
 
--- the player stopped at one of these requests and wrote the text for those before it, or a write failed
+-- the player stopped at one of these requests and wrote the text for the requests before that one, or a write failed
 abbrev pub HasStopped : Description → (start : State) → Exit → List Asked → List NumberedRequest → List ℕ → Type 0
 HasStopped stack start (exits.NotTop number) asked requests text = StopsAt (IsOfNone stack number) stack start asked requests text
 HasStopped stack start exits.Memory asked requests text = StopsAt (IsOfTop stack) stack start asked requests text
@@ -73,7 +73,7 @@ HasStopped stack start exit asked requests text = ⊥
 
 -- ---- a whole replay
 
--- all requests up to their end were answered with this text, and they ended as `e`
+-- all requests were answered with this text, and the input of requests ended as `e`
 pub record IsWhole (stack : Description) (start : State) (requests : Requests) (text : List ℕ) (e : Ending) : Type 0 where
   pub ends_so : requests.ending ≡ Some e
   pub told : AreAnswered stack start [] requests.all text

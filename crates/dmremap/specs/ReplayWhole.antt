@@ -8,22 +8,22 @@ use Rattle.dmremap.specs.ReplayOutcome.{AreAnswered, IsPlayed}
 use Rattle.dmremap.specs.Whole.{Begins, Refuses, Start, Unsettled}
 use Rattle.std.specs.Prelude.{◌≡◌, ◌++◌}
 
--- the text for some first requests, to a stack in this state
+-- the text is the answers to the first few requests, played over a stack in this state
 pub record BeginsReplay (stack : Description) (state : State) (requests : List NumberedRequest) (text : List ℕ) : Type 0 where
   pub first : List NumberedRequest
   pub later : List NumberedRequest
   pub split : requests ≡ first ++ later
   pub told : AreAnswered stack state [] first text
 
--- what a replay answers over a stack in this state: a refusal if two claims clash; the text for all requests and an end; or the text for some first requests,
--- if the end isn't settled
+-- what a replay answers over a stack in this state: a refusal if two claims clash, or else the text for all requests and an end, or the text for the first few
+-- requests if the delivered bytes don't determine the end
 abbrev pub ReplaysStack : Description → State → (requests : Delivery) → Answer → Type 0
 ReplaysStack stack state requests (Tells end) = (end ≡ end_of (Refused refusals.Untidy)) × (clash : Clash) × IsClash (claims stack) clash
 ReplaysStack stack state requests (Writes text (Some end)) =
     IsTidy stack × (exit : Exit) × IsPlayed stack state (requests_of requests) text exit × (is_flushed exit ≡ true) × (end ≡ end_of exit)
 ReplaysStack stack state requests (Writes text None) = IsTidy stack × BeginsReplay stack state (requests_of requests).all text
 
--- what a replay answers over a stack that starts in a state, is refused with a message, or has no settled start
+-- what a replay answers over a stack, depending on its start: a state, a message that refuses the run, or a start that the inputs don't determine
 abbrev pub ReplaysOver : Start → Description → (requests : Delivery) → Answer → Type 0
 ReplaysOver (Begins state) stack requests answer = ReplaysStack stack state requests answer
 ReplaysOver (Refuses message) stack requests answer = answer ≡ Tells (refused_by message)

@@ -1,4 +1,4 @@
--- What `map` answers to what was delivered. It may first play earlier requests, without answering them, and may start in the state that exception stores hold.
+-- What `map` answers for its inputs. It may first play earlier requests, without answering them, and may start in the state that exception stores hold.
 use Rattle.dmremap.specs.Base.{ℕ, Bool, List, [], Option, None, Some, option_map, Delivery, InputPast, delivery, Ending, State, start_state, Description, Outcome, requests_outcome, run_outcome, HasMet, Ended, Refused, BadRequest, Done, ReadFault, WriteFault}
 use Rattle.dm_stream.specs.declared.runs.earlier.EarlierFault.TheVariants as earlier
 use Rattle.dmremap.specs.declared.exit.Refusal.TheVariants as refusals
@@ -7,16 +7,16 @@ use Rattle.dmremap.specs.Load.{SoundAs}
 use Rattle.dmremap.specs.Opening.{Loaded, Opened, Opening}
 use Rattle.std.specs.Prelude.{◌≡◌, ◌⊎◌}
 
--- the outcome of playing earlier requests over a stack in this state; without them the state stays as it is
+-- the outcome of playing earlier requests over a stack in this state; if there are none, the state stays as it is
 abbrev pub earlier_from : State → Description → (before : Option Delivery) → Outcome
 earlier_from start description None = record { output = []; state = start; ending = Some Done }
 earlier_from start description (Some before) = requests_outcome description start before
 
--- the outcome of the delivered requests, from the state that earlier ones left; `flag` asks for status lines
+-- the outcome of the delivered requests, from the state that earlier requests left; `flag` asks for status lines
 abbrev pub outcome_from : State → Description → (flag : Bool) → (before : Option Delivery) → Delivery → Outcome
 outcome_from start description flag before requests = run_outcome description flag (earlier_from start description before).state requests
 
--- how a run over a stack starts: in a state, refused with a message, or not settled by what was delivered
+-- how a run over a stack starts: in a state, or refused with a message; Unsettled if the delivered bytes don't determine the start
 pub data Start : Type 0 where
   Begins : State → Start
   Refuses : (message : List ℕ) → Start
@@ -26,7 +26,7 @@ pub data Start : Type 0 where
 abbrev pub fresh_start : Description → Start
 fresh_start description = Begins (start_state description)
 
--- what a run with this outcome answers; earlier requests that didn't come to a clean end refuse it
+-- what a run with this outcome answers; if earlier requests ended with a fault, the run is refused
 abbrev pub answer_after : Option Ending → Outcome → Option Answer
 answer_after (Some Done) outcome = Some (Writes outcome.output (option_map (λ ending. end_of (Ended ending)) outcome.ending))
 answer_after (Some (BadRequest number word)) outcome = Some (Tells (end_of (Refused (refusals.Earlier (earlier.BadRequest number word)))))
@@ -34,14 +34,14 @@ answer_after (Some ReadFault) outcome = Some (Tells (end_of (Refused (refusals.E
 answer_after (Some WriteFault) outcome = None
 answer_after None outcome = None
 
--- what a run answers over a stack that starts like this; None if the start isn't settled
+-- what a run answers over a stack that has this start; None if the delivered bytes don't determine the answer
 abbrev pub answer_over : Start → Description → (flag : Bool) → (before : Option Delivery) → Delivery → Option Answer
 answer_over (Begins state) description flag before requests =
     answer_after (earlier_from state description before).ending (outcome_from state description flag before requests)
 answer_over (Refuses message) description flag before requests = Some (Tells (refused_by message))
 answer_over Unsettled description flag before requests = None
 
--- `answer` is what `map` answers over a stack that starts like this
+-- `answer` is what `map` answers over a stack that has this start
 abbrev pub MapsOver : Start → Description → (flag : Bool) → (before : Option Delivery) → (requests : Delivery) → Answer → Type 0
 MapsOver start description flag before requests answer = answer_over start description flag before requests ≡ Some answer
 
@@ -51,7 +51,7 @@ Maps Opens starts flag before requests = Opened Opens (λ stack. MapsOver (start
 
 -- ---- earlier requests
 
--- earlier requests were played over a stack in this state up to their end, and not read any further
+-- earlier requests were played over a stack in this state up to their end, and nothing was read after that end
 pub record ArePlayedFrom (start : State) (description : Description) (old new : InputPast) : Type 0 where
   pub end : Ending
   pub ends : (earlier_from start description (Some (delivery old new))).ending ≡ Some end
@@ -70,7 +70,7 @@ ArePlayedOver past (Begins state) description old new = ArePlayedIf past state d
 ArePlayedOver past (Refuses message) description old new = ⊥
 ArePlayedOver past Unsettled description old new = ⊥
 
--- earlier requests are read only after a load gave a stack that has a state to start in
+-- earlier requests are read only if a load gave a stack, and that stack has a state to start in
 abbrev pub EarlierRead : {X : Type 0} → (past : X → InputPast) → (Opens : Opening → Type 0) → (starts : Description → Start) → (old new : Option X) → Type 0
 EarlierRead past Opens starts old new =
     (new ≡ old) ⊎ ((description : Description) × Opens (Loaded (SoundAs description)) × ArePlayedOver past (starts description) description old new)

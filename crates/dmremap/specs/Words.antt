@@ -1,4 +1,4 @@
--- The program's command line, and the job or the fault that its words stand for.
+-- The program's command line, and the job or the fault that words of the command line stand for.
 use Rattle.dmremap.specs.Base.{[], ℕ, Bool, true, false, List, Option, None, Some, Result, IfOk, ⊤, codes, drop, map, not, option_and_then, option_map, unwrap_or, Bor, before_first, list_any, option_map_or, bytes_eq, digits_value, Format, Lvm, Tables, Job, Concise, Table, App, Row, Rule, Text, app_of, fault_of, first_of, kind_of, new_app, new_rule, subcommand_of, with_rule, with_subcommand}
 use Rattle.std.specs.Prelude.{◌≡◌, ◌≢◌, ◌∷◌, ◌&&◌, ◌||◌, if◌then◌else◌}
 use Rattle.std.specs.Str.Parse.{without_leading_plus}
@@ -21,21 +21,21 @@ use Rattle.dmremap.specs.declared.words.WordsFault.TheVariants.{Words, Disks, Me
 
 -- ---- the command line
 
--- the words that FORMAT can be
+-- the words that are accepted as FORMAT
 abbrev pub formats : List Text
 formats = codes "lvm" ∷ codes "concise" ∷ codes "table" ∷ codes "images" ∷ []
 
--- the format that a word names, unless the word is `images`
+-- the format that a word of `formats` names; the word `images` is handled elsewhere
 abbrev pub format_named : Text → Format
 format_named word = if bytes_eq word (codes "lvm") then Lvm else (if bytes_eq word (codes "concise") then Tables Concise else Tables Table)
 
--- clap accepts exactly these words as a value
+-- clap accepts exactly the words in `taken` as a value
 pub record TakesNames (taken : List Text) (parser : ValueParser) : Type 0 where
   pub names : Bor (List (Bor Text))
   pub is_names : parser ≡ Names names
   pub are_taken : map (λ name. name.now) names.now ≡ taken
 
--- the parsers of FORMAT: one for commands that accept every format, and one for `metadata`, which accepts only `images`
+-- the parsers of FORMAT: one for commands that accept every format, and one for `metadata`, whose only format is `images`
 pub record Parsers : Type 0 where
   pub any : ValueParser
   pub images : ValueParser
@@ -44,7 +44,7 @@ pub record TakeFormats (parsers : Parsers) : Type 0 where
   pub any : TakesNames formats parsers.any
   pub images : TakesNames (codes "images" ∷ []) parsers.images
 
--- a required argument, with one value name in the help
+-- a required argument, which the help shows with one value name
 abbrev pub required_rule : Text → Rule
 required_rule id = record (new_rule id) { value_names = 1; required = true }
 
@@ -52,7 +52,7 @@ required_rule id = record (new_rule id) { value_names = 1; required = true }
 abbrev pub format_rule : ValueParser → Rule
 format_rule parser = record (required_rule (codes "format")) { parser = Some parser }
 
--- an optional argument, with one value name in the help
+-- an optional argument, which the help shows with one value name
 abbrev pub optional_rule : Text → Rule
 optional_rule id = record (new_rule id) { value_names = 1 }
 
@@ -100,7 +100,7 @@ map_app parser = with_rule (with_rule (with_rule (loading_app (codes "map") pars
 abbrev pub replay_app : ValueParser → App
 replay_app parser = with_rule (loading_app (codes "replay") parser) paths_rule
 
--- `read FORMAT FILE [DISKS] DEVICE [--from SECTOR] [--count SECTORS] [--paths PATHS]`: the last word is optional for clap because not every format has DISKS
+-- `read FORMAT FILE [DISKS] DEVICE [--from SECTOR] [--count SECTORS] [--paths PATHS]`: DEVICE is optional for clap because not every format has DISKS
 abbrev pub read_app : ValueParser → App
 read_app parser =
     with_rule (with_rule (with_rule (with_rule (loading_app (codes "read") parser) (optional_rule (codes "device"))) (sectors_rule (codes "from"))) (sectors_rule (codes "count"))) paths_rule
@@ -117,7 +117,7 @@ name_app = three_app (codes "name") (required_rule (codes "vg")) (required_rule 
 abbrev pub split_app : App
 split_app = with_rule (new_app (codes "splitname")) (required_rule (codes "name"))
 
--- the program without its commands: it needs a command, prints its help if it gets no word, and has no short flag for its version
+-- the program without its commands: clap requires a command, prints the help if there is no word, and offers no short flag for the version
 abbrev pub bare_app : App
 bare_app = on_top (λ s. record s {
   subcommand_required = true;
@@ -131,23 +131,23 @@ abbrev pub with_commands : App → List App → App
 with_commands line [] = line
 with_commands line (command ∷ commands) = with_commands (with_subcommand line command.top) commands
 
--- the program with all of its commands; only the flag for the version may come before them
+-- the program with all of its commands; before a command, only the flag for the version may be given
 abbrev pub command_line : Parsers → App
 command_line parsers = with_commands (with_rule bare_app version_rule)
     (map_app parsers.any ∷ loading_app (codes "table") parsers.any ∷ loading_app (codes "concise") parsers.any
     ∷ loading_app (codes "check") parsers.any ∷ replay_app parsers.any ∷ read_app parsers.any ∷ metadata_app parsers.images ∷ name_app ∷ split_app ∷ [])
 
--- the command that was made is the one of `app`, unless there was no memory to make it
+-- the result is the command that `app` describes, unless memory ran out
 abbrev pub HasApp : {E : Type 0} → App → Result Command E → Type 0
 HasApp app result = IfOk result (λ command. app_of command ≡ app)
 
 -- ---- from clap's matches to a job
 
--- whether the flag was given: its text is `true` if it was
+-- whether a flag was given: clap then has the text `true` for the flag
 abbrev pub has_flag : Text → List Row → Bool
 has_flag id rows = option_map_or (λ text. bytes_eq text (codes "true")) (first_of id rows) false
 
--- the text of a required word, which clap never leaves out
+-- the text of a required word; clap always has one
 abbrev pub word_of : Text → List Row → Text
 word_of id rows = unwrap_or (first_of id rows) []
 
@@ -158,23 +158,23 @@ files_at Lvm file (Some disks) = None
 files_at (Tables form) file None = None
 files_at (Tables form) file (Some disks) = Some (file_words (Tables form) file (Some disks))
 
--- the source of `images`, whose list is FILE: neither DISKS nor `--paths` may be given
+-- the source of the format `images`, whose list of paths is FILE: neither DISKS nor `--paths` may be given
 abbrev pub images_at : Text → (disks paths : Option Text) → Option SourceWords
 images_at list None None = Some (image_words list)
 images_at list None (Some paths) = None
 images_at list (Some disks) paths = None
 
--- the source that FORMAT stands for, with this word for DISKS; None if a word is missing or too many
+-- the source that FORMAT names, with this word for DISKS; None if a word is missing or not allowed
 abbrev pub source_by : (format : Text) → List Row → (disks : Option Text) → Option SourceWords
 source_by format rows disks =
     if bytes_eq format (codes "images") then images_at (word_of (codes "file") rows) disks (first_of (codes "paths") rows)
     else files_at (format_named format) (word_of (codes "file") rows) disks
 
--- the source that the words of a command name
+-- the source that the words of a command name; None if DISKS or `--paths` doesn't fit FORMAT
 abbrev pub source_in : List Row → (disks : Option Text) → Option SourceWords
 source_in rows disks = source_by (word_of (codes "format") rows) rows disks
 
--- the job of a command that loads this source; a command that isn't named here is `replay`
+-- the job of the command of this name, which loads a source; any name not listed here is `replay`
 abbrev pub loading_job : Text → List Row → SourceWords → JobWords
 loading_job command rows from =
     if bytes_eq command (codes "map") then map_words from (first_of (codes "paths") rows) (first_of (codes "before") rows) (has_flag (codes "status") rows)
@@ -186,23 +186,23 @@ loading_job command rows from =
 abbrev pub source_job : Text → List Row → Option JobWords
 source_job command rows = option_map (loading_job command rows) (source_in rows (first_of (codes "disks") rows))
 
--- the number that a text spells; clap accepts no other text
+-- the number that a text spells; clap accepts only texts that spell one
 abbrev pub number_of : Text → Option ℕ
 number_of text = if accepts false sectors_parser text then Some (digits_value 10 (without_leading_plus text)) else None
 
 abbrev pub number_at : Text → List Row → Option ℕ
 number_at id rows = option_and_then number_of (first_of id rows)
 
--- the range that `read` is asked for: by default from sector 0, and to the device's end
+-- the range of sectors to read for `read`: by default from sector 0, and up to the end of the device
 abbrev pub range_at : List Row → (device : Text) → RangeWords
 range_at rows device = record { device = device; from = unwrap_or (number_at (codes "from") rows) 0; count = number_at (codes "count") rows }
 
--- DISKS and DEVICE, of two optional words: DEVICE is the last one given
+-- DISKS and DEVICE, from two optional words: DEVICE is the last word that was given, and DISKS the one before it, if any
 abbrev pub last_of : (second third : Option Text) → Option Text × Option Text
 last_of second (Some device) = (second, Some device)
 last_of second None = (None, second)
 
--- the job of `read` from a source; files need `--paths`
+-- the job of `read` from a source; a source of files requires `--paths`
 abbrev pub read_from : SourceWords → (paths : Option Text) → RangeWords → Option JobWords
 read_from (file_words format file disks) None range = None
 read_from from paths range = Some (read_words from paths range)
@@ -211,7 +211,7 @@ read_from from paths range = Some (read_words from paths range)
 abbrev pub range_job : List Row → (disks : Option Text) → RangeWords → Option JobWords
 range_job rows disks range = option_and_then (λ from. read_from from (first_of (codes "paths") rows) range) (source_in rows disks)
 
--- the job of `read`; None if a word is missing or doesn't fit
+-- the job of `read`; None if a word is missing, or doesn't fit FORMAT
 abbrev pub read_job : List Row → Option JobWords
 read_job rows =
     let last = last_of (first_of (codes "disks") rows) (first_of (codes "device") rows) in
@@ -221,7 +221,7 @@ read_job rows =
 abbrev pub name_job : List Row → JobWords
 name_job rows = name_words (record { vg = word_of (codes "vg") rows; lv = word_of (codes "lv") rows; layer = first_of (codes "layer") rows })
 
--- the job of a command with these words; None if DISKS or `--paths` is missing or doesn't fit
+-- the job of the command of this name with these words; None if DISKS or `--paths` is missing or doesn't fit FORMAT
 abbrev pub job_in : Text → List Row → Option JobWords
 job_in command rows =
     if bytes_eq command (codes "name") then Some (name_job rows)
@@ -230,7 +230,7 @@ job_in command rows =
     else (if bytes_eq command (codes "read") then read_job rows
     else source_job command rows)))
 
--- the job of the subcommand that clap found; clap accepts no words without one
+-- the job of the subcommand that clap found; clap refuses words without a subcommand
 abbrev pub said_by : Option (Text × List Row) → Option JobWords
 said_by met = option_and_then (λ m. job_in m.0 m.1) met
 
@@ -245,49 +245,49 @@ lone_hyphen_in words = list_any (λ w. bytes_eq w (codes "-"))
 abbrev pub has_lone_hyphen : List Text → Bool
 has_lone_hyphen words = lone_hyphen_in (drop 1 words)
 
--- clap accepts the words, and they ask for `said`; None if DISKS or `--paths` doesn't fit
+-- clap accepts the words, and `said` is the job that they ask for; None if DISKS or `--paths` doesn't fit FORMAT
 pub record IsTaken (words : List Text) (said : Option JobWords) : Type 0 where
   pub parsers : Parsers
   pub formats : TakeFormats parsers
   pub taken : fault_of (command_line parsers) words ≡ []
   pub says : said_by (subcommand_of (command_line parsers) words) ≡ said
 
--- the fault is an error of kind `k`, or memory ran out
+-- the fault is an error of kind `k`, or it is that memory ran out
 abbrev pub IsOfKind : ErrorKind → WordsFault → Type 0
 IsOfKind k (Words error) = kind_of error ≡ k
 IsOfKind k Disks = ⊥
 IsOfKind k Memory = ⊤
 
--- clap refuses the words with this error, which is not that memory ran out
+-- clap refuses the words with this error, which isn't that memory ran out
 pub record IsRefused (words : List Text) (error : Error) : Type 0 where
   pub parsers : Parsers
   pub formats : TakeFormats parsers
   pub among : IsAmong (kind_of error) (fault_of (command_line parsers) words)
   pub no_memory : kind_of error ≢ kind.OutOfMemory
 
--- clap refuses the words with this fault, or memory ran out
+-- clap refuses the words, and this is the fault; or memory ran out
 abbrev pub IsUntaken : List Text → WordsFault → Type 0
 IsUntaken words (Words error) = IsRefused words error
 IsUntaken words Disks = ⊥
 IsUntaken words Memory = ⊤
 
--- the words ask for this job of a command, and none is a lone hyphen
+-- the words ask for this job, which is that of a command, and no word is a lone hyphen
 pub record IsCommandOf (words : List Text) (job : Job) : Type 0 where
   pub hyphen : has_lone_hyphen words ≡ false
   pub taken : IsTaken words (Some (job_words job))
 
--- the error for refused words: an unknown argument if there is a lone hyphen, or else the error of clap
+-- the error for refused words: an unknown argument if one of the words is a lone hyphen, or else clap's error
 abbrev pub IsErrorFor : (hyphen : Bool) → List Text → Error → Type 0
 IsErrorFor true words error = kind_of error ≡ kind.UnknownArgument
 IsErrorFor false words error = IsRefused words error
 
--- the words ask for no command, because of this fault. Memory can run out for any words; `Disks` is the fault only where clap accepts them
+-- the words ask for no command, because of this fault. Memory can run out for any words; the fault `Disks` requires that clap accepts the words
 abbrev pub IsRefusedFor : List Text → WordsFault → Type 0
 IsRefusedFor words (Words error) = IsErrorFor (has_lone_hyphen words) words error
 IsRefusedFor words Disks = (has_lone_hyphen words ≡ false) × IsTaken words None
 IsRefusedFor words Memory = ⊤
 
--- a word of messages that is also the name of a command
+-- a word of messages that is also the name of a command, so that `help` with this word explains the command
 abbrev pub is_command : Text → Bool
 is_command word = bytes_eq word (codes "name") || bytes_eq word (codes "read")
 
@@ -296,7 +296,7 @@ abbrev pub asked_word : List Text → Option Text
 asked_word (program ∷ help ∷ asked ∷ []) = if bytes_eq help (codes "help") && not (is_command asked) && is_explained asked then Some asked else None
 asked_word _ = None
 
--- the job is to explain `asked` if there is one, or else that of a command
+-- the job explains the word `asked` if there is one, or else is the job of a command
 abbrev pub IsJobBy : (asked : Option Text) → List Text → Job → Type 0
 IsJobBy (Some word) words job = job_words job ≡ explain_words word
 IsJobBy None words job = IsCommandOf words job
@@ -311,7 +311,7 @@ IsFaultOf words fault = (asked_word words ≡ None) × IsRefusedFor words fault
 
 -- ---- the exit status of a fault
 
--- the error is the help or the version that was asked for
+-- the error is a request for help or for the version, not a fault of the words
 abbrev pub is_shown : ErrorKind → Bool
 is_shown kind.DisplayHelp = true
 is_shown kind.DisplayVersion = true
@@ -325,21 +325,21 @@ status_of Memory = STATUS_MEMORY
 
 -- ---- clap's errors as faults
 
--- the error is an unknown command
+-- the error is that a command is unknown
 abbrev pub is_invalid : ErrorKind → Bool
 is_invalid kind.InvalidSubcommand = true
 is_invalid _ = false
 
--- the fault is an unknown command
+-- the fault is that a command is unknown
 abbrev pub is_unknown : WordsFault → Bool
 is_unknown (Words error) = is_invalid (kind_of error)
 is_unknown _ = false
 
--- the error is that memory ran out in clap
+-- the error is that memory ran out while clap read the words
 abbrev pub is_memory : ErrorKind → Bool
 is_memory kind.OutOfMemory = true
 is_memory _ = false
 
--- an error of clap's as a fault
+-- the fault for an error that clap returned
 abbrev pub fault_from : Error → WordsFault
 fault_from error = if is_memory (kind_of error) then Memory else Words error

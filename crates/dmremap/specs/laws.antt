@@ -1,2 +1,2 @@
--- Laws of the definitions, with their proofs. They are here, not among the proofs, because types and traits cite them.
+-- Laws of the definitions, with their proofs. They are among the specs because types and traits cite them.
 pub mod Played

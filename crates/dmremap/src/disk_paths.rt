@@ -1,6 +1,6 @@
 //! PATHS: the list that says which images hold the disks of a stack.
 //!
-//! It is read and checked after the stack is loaded, because the stack's names are looked up in it.
+//! PATHS is read and checked after the stack is loaded, because the names of the stack's disks are looked up in PATHS.
 
 ghost use Rattle.dmremap.specs.Prelude.{Err, IfErr, IfOk, Ok, Some, delivery, IsReadOn, Memory, Paths, part_read, IsReadOnIf, delivered_if, AreSettled, places_in, images_in};
 ghost use Rattle.std.specs.Prelude.{◌≡◌, ◌≢◌};
@@ -13,7 +13,7 @@ use std::alloc::Global;
 
 /// Reads a list of paths, and looks up which image holds each disk of a stack.
 ///
-/// Returns `Memory` only if memory ran out; otherwise the first fault of the first check that finds any.
+/// Returns `Memory` only if memory ran out; otherwise returns the first fault of the first check that finds any.
 pub(crate) fn load_images<P: Input>(
     alloc: Global,
     stack: &Stack,
@@ -30,7 +30,7 @@ pub(crate) fn load_images<P: Input>(
     listed_images(alloc, stack, &listed)
 }
 
-/// Reads where the images of disks are from PATHS. A missing PATHS is refused like one that can't be read.
+/// Reads from PATHS which images hold a stack's disks. A missing PATHS is refused like one that can't be read.
 pub(crate) fn load_images_if<P: Input>(
     alloc: Global,
     stack: &Stack,

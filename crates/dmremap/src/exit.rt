@@ -1,7 +1,7 @@
 //! How a command exits: its status and its message.
 //!
-//! A command does its work and returns how it would exit; only then is its output closed and its message written. A
-//! new way to exit is a variant of `Exit`, with its status and its message here and in `specs/Exit.antt`.
+//! A command does its work and returns an `Exit`; only then is the output closed and the message written. A new way to
+//! exit is a variant of `Exit`, with a status and a message here and in `specs/Exit.antt`.
 
 ghost use Rattle.dmremap.specs.Prelude.{OnErr, OnOk, false, Exit, exit_after, exit_message, exit_status, is_refused, load_status, name_status, refusal_status, Exits, IsClosedAs, Ended, Refused, WriteFault};
 ghost use Rattle.dmremap.specs.declared.exit.Refusal.TheVariants.{Load};
@@ -25,17 +25,17 @@ use lvm_volume::NameFault;
 pub(crate) enum Refusal {
     /// The load or the list of paths was refused.
     Load(LoadFault),
-    /// The head of a disk was refused with this message.
+    /// The head of a disk was refused, with this message.
     Head(HeadMessage),
-    /// An exception store was refused with this message.
+    /// An exception store was refused, with this message.
     Store(StoreMessage),
     /// The requests of `--before` were refused.
     Earlier(EarlierFault),
     /// The name can't be built.
     Name(NameFault),
-    /// The name to split isn't built from any parts.
+    /// The name to split is not one that any parts build.
     Split,
-    /// Two claims of the stack clash, so that it can't be replayed.
+    /// `replay` refused the stack, because two of its claims clash.
     Untidy,
     /// No device of the stack has the requested name.
     Device,
@@ -48,18 +48,18 @@ pub(crate) enum Refusal {
 pub(crate) enum Exit {
     /// The command was refused, and wrote nothing.
     Refused(Refusal),
-    /// The command wrote all of its output, or a request or a failed stream ended it.
+    /// The command wrote all of its output, or was ended by a bad request or by a stream that failed.
     Ended(Ending),
-    /// The request with this number names no top device; those before it were answered.
+    /// The request with this number names no top device; the requests before it were answered.
     NotTop(u64),
-    /// Memory ran out at a request; those before it were answered.
+    /// Memory ran out at a request; the requests before it were answered.
     Memory,
-    /// A sector of a device can't be read; those before it were written.
+    /// A sector of a device can't be read; the sectors before it were written.
     Stopped(Stop),
 }
 
 impl Refusal {
-    /// The exit status of a command refused for this reason.
+    /// The exit status of a command that is refused for this reason.
     fn status(&self) -> u8
         ensures { result ≡ refusal_status self.now }
     {
@@ -142,7 +142,7 @@ impl Exit {
         }
     }
 
-    /// The message of a command that was not refused: one line, or empty if the command did all that was asked.
+    /// The message for the exit, unless it is a refusal: one line, or empty if the command did all that was asked.
     fn message(&self) -> LoadMessage
         requires { is_refused self.now ≡ false }
         ensures { result.items ≡ exit_message self.now }
@@ -160,7 +160,7 @@ impl Exit {
         text
     }
 
-    /// Writes the command's message, if it has one, and returns the exit status. The output isn't closed.
+    /// Writes the message for the exit, if there is one, and returns the exit status. Doesn't close the output.
     pub(crate) fn tell<M: Output>(&self, messages: &mut M) -> u8
         ensures { Exits self.now result (M.past messages.old) (M.past messages.new) }
     {
@@ -192,8 +192,8 @@ impl Exit {
         }
     }
 
-    /// Closes the output of a command that would exit like this, unless it was refused. Then writes the message, if
-    /// there is one, and returns the exit status.
+    /// Closes the output for a command that would exit like this, unless the command was refused. Then writes the
+    /// message, if there is one, and returns the exit status.
     pub(crate) fn finish<W: Output, M: Output>(&self, output: &mut W, messages: &mut M) -> u8
         ensures { (exit : Exit) × IsClosedAs self.now (W.past output.old) (W.past output.new) exit
             × Exits exit result (M.past messages.old) (M.past messages.new) }

@@ -1,4 +1,4 @@
-//! What `dmremap help MESSAGE` prints about the word of a message.
+//! What `dmremap help MESSAGE` prints about the word that a message contains.
 
 ghost use Rattle.dmremap.specs.Prelude.{length, map, option_map, list_any, Does, HasDone, after, before, explanation, first_entries, fits, is_explained, later_entries, part_in, part_meant, table_of, texts_of, word_in, Prints, SaidBy};
 ghost use Rattle.dm_table.specs.io.Progress.{Wrote};
@@ -26,7 +26,7 @@ pub(crate) fn print_explanation<W: Output>(message: &str, output: &mut W) -> Exi
 }
 
 /// Writes the explanation of a message, which may lack its first words. For a word alone, writes all entries of the
-/// word, with an empty line between them.
+/// word, separated by empty lines.
 fn write_explanation<W: Output>(message: &str, output: &mut W) -> Result<(), OutFault>
     ensures { Wrote (W.past output.old) (W.past output.new) result (explanation message.now) }
 {
@@ -35,7 +35,7 @@ fn write_explanation<W: Output>(message: &str, output: &mut W) -> Result<(), Out
     write_entries(entries, part_meant(message, word, entries), word, output)
 }
 
-/// Writes the entries that explain a word: in messages of `part` if one is given, or else of any part.
+/// Writes the entries that explain a word in messages of `part`, or, if no part is given, in any messages.
 fn write_entries<W: Output>(
     entries: &[Entry<'_>],
     part: Option<&str>,
@@ -69,7 +69,7 @@ fn part_meant<'a>(message: &'a str, word: &str, entries: &[Entry<'_>]) -> Option
     }
 }
 
-/// The table that holds the entries of a word, if it has any.
+/// The table with the entries of a word: the first table if it has any, or else the second.
 fn table_of(word: &str) -> &'static [Entry<'static>]
     ensures { map (λ entry. ((entry.0.0.now, entry.0.1.now), entry.1.now, entry.2.now)) result.now ≡ table_of word.now }
 {
@@ -95,7 +95,7 @@ fn later_entries() -> &'static [Entry<'static>]
     &LATER_ENTRIES
 }
 
-/// Whether an entry explains this word: in messages of `part` if one is given, or else of any part.
+/// Whether one of the entries explains this word in messages of `part`, or, if no part is given, in any messages.
 fn has_entry(entries: &[Entry<'_>], part: Option<&str>, word: &str) -> bool
     ensures { result ≡ list_any (fits (option_map (λ part. part.now) part.entry) word.entry.now)
         (map (λ entry. ((entry.0.0.now, entry.0.1.now), entry.1.now, entry.2.now)) entries.entry.now) }
@@ -108,7 +108,7 @@ fn has_entry(entries: &[Entry<'_>], part: Option<&str>, word: &str) -> bool
     false
 }
 
-/// Whether the entry explains this word: in messages of `part` if one is given, or else of any part.
+/// Whether the entry explains this word in messages of `part`, or, if no part is given, in any messages.
 fn fits(part: Option<&str>, word: &str, entry: &Entry<'_>) -> bool
     ensures { result ≡ fits (option_map (λ part. part.now) part.entry) word.now
         ((entry.now.0.0.now, entry.now.0.1.now), entry.now.1.now, entry.now.2.now) }
@@ -119,21 +119,21 @@ fn fits(part: Option<&str>, word: &str, entry: &Entry<'_>) -> bool
     }
 }
 
-/// The part that a message is about: its first word after `dmremap: `, without the name or number that may follow.
+/// The part that a message is about: the first word after `dmremap: `, without the name or number that may follow it.
 fn part_in(message: &str) -> &str
     ensures { result.now ≡ part_in message.now }
 {
     before(" ", before(": ", after("dmremap: ", message)))
 }
 
-/// The word of a message: its end, without ` at PLACE`.
+/// The word of a message: the end of the message, without ` at PLACE`.
 fn word_in(message: &str) -> &str
     ensures { result.now ≡ word_in message.now }
 {
     before(" at ", after(": ", after(": ", message)))
 }
 
-/// The text before the first `mark`, or the whole text if there is none.
+/// The text before the first `mark`, or the whole text if it contains no mark.
 fn before<'a>(mark: &str, text: &'a str) -> &'a str
     requires { 0 < length mark.now }
     ensures { result.now ≡ before mark.now text.now }
@@ -144,7 +144,7 @@ fn before<'a>(mark: &str, text: &'a str) -> &'a str
     }
 }
 
-/// The text after the first `mark`, or the whole text if there is none.
+/// The text after the first `mark`, or the whole text if it contains no mark.
 fn after<'a>(mark: &str, text: &'a str) -> &'a str
     requires { 0 < length mark.now }
     ensures { result.now ≡ after mark.now text.now }

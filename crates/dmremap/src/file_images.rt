@@ -1,9 +1,9 @@
 //! Images that are files or block devices, each opened read-only, at its first read.
 //!
-//! At most 64 stay open; an image that was closed for another is opened again when it is read. An image that can't be
-//! opened counts as one that can't be read, and the reason isn't reported. Only files and block devices are opened:
-//! opening a pipe would wait for a writer. Each read names its offset, and fails if the image ends before all of its
-//! bytes.
+//! At most 64 images are open at once; one that was closed in favour of another is opened again at its next read. An
+//! image that can't be opened counts as unreadable, and the reason isn't reported. Only files and block devices are
+//! opened, because opening a pipe would wait for a writer. A read has an offset of its own, and fails if the image ends
+//! before the last of its bytes.
 
 ghost use Rattle.dmremap.specs.Prelude.{IfOk, Contents, AgreesWith};
 ghost use Rattle.std.specs.Prelude.{◌≡◌};
@@ -24,17 +24,17 @@ struct OpenImage {
     file: File,
 }
 
-/// The images of disks, with a log of all that was read of them.
+/// The images of disks, with a log of everything that was read from them.
 #[derive(Drop)]
 pub(crate) struct FileImages<'r> {
     files: &'r HostRuntime,
-    /// The open images: that of line L is in slot L modulo `MOST_OPEN`.
+    /// The open images; the image of line L is in slot L modulo `MOST_OPEN`.
     slots: Vec<Option<OpenImage>>,
     log: ReadLog,
 }
 
 impl<'r> FileImages<'r> {
-    /// Images of which none is open yet. Fails only when out of memory.
+    /// The images of a run, none of them open yet. Fails only when out of memory.
     pub(crate) fn new(alloc: Global, files: &'r HostRuntime) -> Result<FileImages<'r>, AllocError>
         ensures { IfOk result (λ images. (held : Contents) → ⟦<FileImages<'r> as Images>⟧.IsSeen images held) }
     {
@@ -47,7 +47,7 @@ impl<'r> FileImages<'r> {
         })
     }
 
-    /// Reads bytes of the image that a line names, from offset `byte` on. Opens the image if it isn't open.
+    /// Reads bytes from the image that a line of PATHS names, from offset `byte` on. Opens the image unless it is open.
     fn read_at(
         &mut self,
         line: u64,
@@ -66,7 +66,7 @@ impl<'r> FileImages<'r> {
             None => false,
         };
         if !is_open {
-            // The image in this slot is closed before the next one is opened.
+            // Closes the image in this slot before the next one is opened.
             *slot = None;
             *slot = open_image(files, line, path);
         }
@@ -96,7 +96,7 @@ impl<'r> Images for FileImages<'r> {
     }
 }
 
-/// Opens the file or block device at `path`, if that can be opened. The clone keeps its descriptor above those of the
+/// Opens the file or block device at `path`, if possible. The descriptor is cloned so that it is above those of the
 /// standard streams, even if one of them is closed.
 fn open_image(files: &HostRuntime, line: u64, path: &str) -> Option<OpenImage> {
     let kind = fs::metadata(files, path).ok()?.file_type();

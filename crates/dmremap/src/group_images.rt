@@ -1,5 +1,5 @@
-//! PATHS as what opens a command: it lists the images of a volume group's disks, whose heads describe the devices.
-//! The exception stores of the group's snapshots lie in the same images.
+//! Opens a command with PATHS, a list of the images of a volume group's disks. The heads of the disks describe the
+//! devices, and the images also hold the exception stores of the group's snapshots.
 
 ghost use Rattle.dmremap.specs.Prelude.{Some, delivery, AreImagesOpened, AreImagesRead, ImagesOpen, places_in, range_answer, stored_start};
 
@@ -15,7 +15,7 @@ use dm_store::{Images, listed_images};
 use dm_table::{Input, Output};
 use std::alloc::Global;
 
-/// A list of paths, and the images of the disks that it names.
+/// A list of paths, and the images of the disks that the list names.
 #[derive(Drop)]
 pub struct GroupImages<P, I> {
     pub(crate) list: P,

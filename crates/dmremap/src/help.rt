@@ -202,7 +202,7 @@ Example
 
 pub(crate) const READ_ABOUT: &str = "Writes the bytes of a device";
 
-/// The usage line of `read`: DEVICE is the last word, whether or not DISKS is there.
+/// The usage line of `read`, in which DEVICE is the last word, with or without DISKS.
 pub(crate) const READ_USAGE: &str = "dmremap read [OPTIONS] <FORMAT> <FILE> [DISKS] <DEVICE>";
 
 pub(crate) const READ_NOTES: &str = "\

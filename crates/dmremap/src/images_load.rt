@@ -1,8 +1,8 @@
-//! Loads a volume group from the images of its disks: from a list of paths, the heads of the disks that it names, and
-//! the LVM2 text in these heads.
+//! Loads a volume group from the images of its disks, which a list of paths names: reads the heads of the disks, and
+//! then parses the LVM2 text in these heads.
 //!
-//! Faults take precedence in this order: the list; the heads, disk by disk; the LVM2 text; the stack that it
-//! describes; the first disk that is shorter than the text says. The exception stores are read through the same list,
+//! Faults take precedence in this order: the list; the heads, disk by disk; the LVM2 text; the stack that the text
+//! describes; the first disk that is shorter than the text says. The exception stores are found through the same list,
 //! because they lie in the same images.
 
 ghost use Rattle.dmremap.specs.Prelude.{Err, IfErr, IfOk, Ok, Some, length, slice_get, Memory, Paths, Delivery, delivery, IsReadOn, part_read, Contents, heads_of, AreSeen, HeadsOpen, ImagesOpen, IsStoppedBy, IsUnowned, by_text, len_of, list_in, short_of, IsOpened};
@@ -19,12 +19,12 @@ use lvm_head::{HeadFault, HeadRefusal, Heads, SECTOR, read_heads, read_sector};
 use lvm_volume::{DiskFault, OwnedFault, Owners, parse_owned};
 use std::alloc::Global;
 
-/// The most lines of a list of images: as many as a stack can have disks.
+/// The most lines of a list of images, one for each disk that a stack can have.
 const MOST_LINES: usize = 1024;
 
 /// Reads all of a list of paths.
 ///
-/// Returns `Memory` only if memory ran out; otherwise the first fault of the first check that finds any.
+/// Returns `Memory` only if memory ran out; otherwise returns the first fault of the first check that finds any.
 pub(crate) fn read_list<P: Input>(alloc: Global, paths: &mut P) -> Result<Vec<DiskPath>, LoadFault>
     ensures given { IfOk result (λ listed.
         list_in (part_read Paths (delivery (P.past paths.old) (P.past paths.new))) ≡ Some (Ok listed.items)) }
@@ -48,8 +48,8 @@ pub(crate) fn read_list<P: Input>(alloc: Global, paths: &mut P) -> Result<Vec<Di
 
 /// Loads the volume group whose disks are listed.
 ///
-/// Returns `Memory` only if memory ran out; otherwise the first head that is refused, or the first fault of the LVM2
-/// text or of the first check of the stack that finds any.
+/// Returns `Memory` only if memory ran out; otherwise returns the fault of the first head that is refused, or the first
+/// fault of the LVM2 text or of a check of the stack.
 pub(crate) fn load_images<I: Images>(
     alloc: Global,
     disks: &mut ListedImages<I>,
@@ -72,7 +72,7 @@ pub(crate) fn load_images<I: Images>(
     }
 }
 
-/// How many sectors the stack gives the disk of this name; 0 if it has no disk of that name.
+/// How many sectors the disk of this name has in the stack; 0 if the stack has no disk of this name.
 fn len_of(stack: &Stack, name: &str) -> u64
     ensures is { result ≡ len_of stack.now name.now }
     ensures near { result ≤ 2 ^ 50 }
@@ -83,7 +83,7 @@ fn len_of(stack: &Stack, name: &str) -> u64
     }
 }
 
-/// The first listed disk whose last sector, according to the LVM2 text, can't be read.
+/// The number of the first listed disk whose last sector can't be read; the LVM2 text says which sector is the last.
 fn first_short<I: Images>(disks: &mut ListedImages<I>, stack: &Stack) -> Option<usize>
     ensures paths { disks.new.paths.items ≡ disks.old.paths.items }
     ensures still { (held : DiskContents) → AreSeen (I.IsSeen disks.new.images) disks.new.paths.items held
@@ -119,7 +119,7 @@ pub(crate) fn listed_heads<I: Images>(
     read_heads(alloc, disks, count)
 }
 
-/// Loads the volume group that the LVM2 text of the heads describes, with the listed names for its disks.
+/// Loads the volume group that the LVM2 text in the heads describes; its disks get the names in the list.
 fn load_owned(alloc: Global, paths: &[DiskPath], heads: &Heads) -> Result<Stack, Refusal>
     ensures { IsOpened (HeadsOpen paths.now (Ok heads.now)) result }
 {
@@ -146,7 +146,7 @@ fn unowned(paths: &[DiskPath], fault: OwnedFault) -> Refusal
     }
 }
 
-/// The fault of a disk's head for a disk that the LVM2 text refuses.
+/// The fault of a disk's head if the LVM2 text refuses the disk.
 fn by_text(fault: DiskFault) -> HeadFault
     ensures { result ≡ by_text fault }
 {

@@ -1,4 +1,4 @@
-//! Prints the LVM2 text of the volume group whose disks lie in images, found as `GroupImages` finds it but not parsed.
+//! Prints the LVM2 text of a volume group from the images of its disks, which `GroupImages` opens, without parsing it.
 
 ghost use Rattle.dmremap.specs.Prelude.{InputPast, delivery, written_since, HasWritten, IsReadOn, Contents, Answers, unread, Does, failed_writes, AreImagesUsed, PrintsImages, AskedBy, StreamsLeft, moved};
 
@@ -11,11 +11,11 @@ use dm_table::{Input, Output};
 use std::alloc::Global;
 
 /// Prints the LVM2 text in the heads of the disks that a list of paths names, byte by byte, and returns the exit
-/// status. Nothing is parsed or loaded: the text may be of a group that `map` refuses, or lack a disk of the list. It
-/// is empty if no head has a text.
+/// status. Neither parses nor loads the text: `map` may refuse it, and a listed disk may be missing from it. The text
+/// is empty if no head contains any.
 ///
-/// The status is 1 if the list or a disk's head is refused: then nothing was written or flushed. It is 5 if the
-/// output failed, 6 if memory ran out, in which case nothing was written, and 0 otherwise.
+/// The status is 1 if the list or a disk's head is refused, and then nothing was written or flushed. It is 5 if the
+/// output failed, 6 if memory ran out, and then nothing was written, and 0 otherwise.
 ///
 /// Cost: that of reading the heads (`read_heads`).
 pub fn print_metadata<P: Input, I: Images, W: Output, M: Output>(
@@ -25,12 +25,12 @@ pub fn print_metadata<P: Input, I: Images, W: Output, M: Output>(
     output: &mut W,
     messages: &mut M,
 ) -> u8
-    // For any contents of the images that agree with all reads of them: the contents and the list determine one
-    // answer, which is written, reported and returned.
+    // For all contents of the images that agree with every read: the contents and the list determine one answer, and
+    // this answer is written, reported and returned.
     ensures answers { (held : Contents) → I.IsSeen disks.new.images held
         → Answers (λ asked. PrintsImages (delivery (P.past paths.old) (P.past paths.new)) held) unread
         (moved W.past output.old output.new) (moved M.past messages.old messages.new) result }
-    // The exit status says what became of the output and of the messages.
+    // The exit status says what was written and flushed, and which message was reported.
     ensures left { StreamsLeft result unread (moved W.past output.old output.new)
         (moved M.past messages.old messages.new) }
     // The list is never read after its end or after a fault.
@@ -43,7 +43,7 @@ pub fn print_metadata<P: Input, I: Images, W: Output, M: Output>(
     exit.finish(output, messages)
 }
 
-/// Prints the LVM2 text, and returns how the command would exit. Doesn't flush the output.
+/// Prints the LVM2 text, and returns the exit that the command would have. Doesn't flush the output.
 fn answer<P: Input, I: Images, W: Output>(
     alloc: Global,
     paths: &mut P,

@@ -1,7 +1,7 @@
-//! What the program is asked to do.
+//! What the words of the command line ask the program to do.
 //!
-//! A job holds only what the words say, and nothing that a file says, so that bad words are refused before any file
-//! is opened. A new command is a variant of `Job`; a new format is a variant of `Format` and of `Source`.
+//! A job depends only on the words, not on any file, so that bad words are refused before a file is opened. A new
+//! command is a variant of `Job`; a new format is a variant of `Format` and of `Source`.
 
 /// The form of a text that lists devices and their tables.
 #[derive(Clone, Copy)]
@@ -21,10 +21,10 @@ pub enum Format {
     Tables(TableForm),
 }
 
-/// What a command loads. Each file is named by its path, which isn't checked here.
+/// What a command loads. Each file is given by its path, which isn't checked here.
 #[derive(Clone, Copy)]
 pub enum Source<'a> {
-    /// A text in a format, with a list of its disks unless the format itself says which they are.
+    /// A text in a format, with a list of disks unless the text names its disks itself.
     Files {
         format: Format,
         file: &'a str,
@@ -43,25 +43,25 @@ pub struct SectorRange<'a> {
     pub device: &'a str,
     /// The first sector to read.
     pub from: u64,
-    /// How many sectors to read; all up to the end of the device if there is no count.
+    /// How many sectors to read, or `None` to read all up to the end of the device.
     pub count: Option<u64>,
 }
 
-/// What the words ask for, with texts borrowed from the words.
+/// What the words of the command line ask for, with texts borrowed from these words.
 #[derive(Clone, Copy)]
 pub enum Job<'a> {
     /// Map the requests of the standard input through the tables of a source. The run starts in the state that the
-    /// exception stores hold, if the source is images or `paths` names a list of paths, and after the requests of the
-    /// file `earlier`, if there is one. With `status`, status lines of the snapshots follow the output.
+    /// exception stores hold, if the source is images or `paths` names a list of paths, and first plays the requests of
+    /// the file `earlier`, if there is one. With `status`, status lines of the snapshots follow the output.
     Map {
         source: Source<'a>,
         paths: Option<&'a str>,
         earlier: Option<&'a str>,
         status: bool,
     },
-    /// Print the LVM2 text in the images of a list.
+    /// Print the LVM2 text in the images that this list of paths names.
     Metadata(&'a str),
-    /// Print the devices of a source in this form.
+    /// Print the devices of a source, in this form.
     Print {
         form: TableForm,
         source: Source<'a>,
@@ -74,8 +74,8 @@ pub enum Job<'a> {
         source: Source<'a>,
         paths: Option<&'a str>,
     },
-    /// Write the bytes of a device's sectors, in the state that the exception stores hold, from the source's images
-    /// or from those that `paths` lists.
+    /// Write the bytes of a device's sectors, in the state that the exception stores hold. The images are those of the
+    /// source, or those that `paths` lists.
     Read {
         source: Source<'a>,
         paths: Option<&'a str>,
@@ -89,6 +89,6 @@ pub enum Job<'a> {
     },
     /// Print the parts of a logical volume's device-mapper name.
     SplitName(&'a str),
-    /// Print what the manual says of a word of messages.
+    /// Print what the manual says about a word of messages.
     Explain(&'a str),
 }

@@ -1,4 +1,4 @@
-//! Images as the disks of a list of paths: a disk is read by its index in the list.
+//! Reads disks in images: the index of a disk in a list of paths says which image holds it.
 
 ghost use Rattle.dmremap.specs.Prelude.{AreSeen};
 ghost use Rattle.std.specs.Prelude.{◌≡◌};
@@ -8,7 +8,7 @@ use dm_table::{DiskPath, ReadFault};
 use lvm_head::Disks;
 use std::alloc::Global;
 
-/// Images, and the list that says which disk lies in which image.
+/// Images, and a list of which image holds which disk.
 #[derive(Drop)]
 pub struct ListedImages<I> {
     pub(crate) images: I,

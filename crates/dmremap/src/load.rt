@@ -1,8 +1,8 @@
 //! The load: reads the parts whole, parses their texts, and checks the stack that they describe.
 //!
-//! A refused load keeps nothing. Faults take precedence in this order: a part that can't be read, the source's text,
-//! the disk list's text, the stack that they describe. A new format is an arm of `load` here and of `PartsGive` in
-//! `specs/Load.antt`.
+//! A refused load leaves nothing behind. Faults take precedence in this order: a part that can't be read, the source's
+//! text, the disk list's text, the stack that both describe. A new format is an arm of `load` here and of `PartsGive`
+//! in `specs/Load.antt`.
 
 ghost use Rattle.dmremap.specs.Prelude.{IfOk, IfErr, None, OnOk, Some, delivery, Disks, Memory, Read, fault_at, first_fault, TextOf, part_read, IsReadOn, IsReadOnIf, delivery_if, DescribesDevices, Loads, PartsGive, device_checks};
 ghost use Rattle.dm_table.specs.load.PartInput.{Refuses};
@@ -18,9 +18,9 @@ use lvm_volume::parse_metadata;
 use std::alloc::Global;
 
 /// Loads the stack of a source and its disk list: reads both, parses both, and checks the stack that they describe.
-/// If the format has no disk list, none is read.
+/// Reads no disk list if the format has none.
 ///
-/// Returns `Memory` only if memory ran out; otherwise the first fault of the first check that finds any.
+/// Returns `Memory` only if memory ran out; otherwise returns the first fault of the first check that finds any.
 #[tactic(auto, using(crate::proofs::LoadLemmas::untouched))]
 pub(crate) fn load<S: Input, D: Input>(
     alloc: Global,
@@ -58,7 +58,7 @@ pub(crate) fn unread(part: Part) -> LoadFault
     }
 }
 
-/// Reads the disk list. A missing one is refused like one that can't be read.
+/// Reads the disk list. A missing disk list is refused like one that can't be read.
 fn read_disks<D: Input>(alloc: Global, disks: &mut Option<D>) -> Result<Vec<u8>, LoadFault>
     ensures text { IfOk result
         (λ text. part_read Disks (delivery_if D.past disks.old disks.new) ≡ TextOf text.items) }

@@ -1,7 +1,7 @@
-//! dmremap maps block requests through device-mapper tables to the disks below.
+//! dmremap maps block requests through device-mapper tables to the disks below the devices.
 //!
 //! This file is the table of contents: `words` reads the command line; `map_whole`, `map_stored`, `other_whole` and
-//! `print_metadata` do the work; `main` only connects them to the real files and streams.
+//! `print_metadata` do the work; `main` only passes the real files and streams to them.
 #![tactic(auto)]
 
 ghost use Rattle.dmremap.specs.Prelude.{true, job_words, is_other};
@@ -56,7 +56,7 @@ use std::io::{IsTerminal, Stderr, Stdin, Stdout};
 use std::process::ExitCode;
 use words::{WordsFault, not_text, read_words};
 
-/// A file of the command; `P` is the part of the input that it holds.
+/// A file that the command line names; `P` says which part of the input the file holds.
 type File<'r, P> = Counted<PartFile<'r, HostRuntime, P>>;
 
 /// The files of a source, and the images of its disks.
@@ -67,7 +67,7 @@ type FileParts<'r> = Parts<
     FileImages<'r>,
 >;
 
-/// A list of a volume group's images, and these images.
+/// A list of the images of a volume group's disks, and the images themselves.
 type FileGroup<'r> = GroupImages<File<'r, PathsPart>, FileImages<'r>>;
 
 /// The stream of requests: the standard input.
@@ -79,12 +79,12 @@ type Answers = Gathered<Counted<Stdout>>;
 /// The stream of messages: the standard error.
 type Messages = Counted<Stderr>;
 
-/// The line that follows a message on a terminal.
+/// The line that follows a message if the standard error is a terminal.
 const NEXT_STEP: &str =
     "what it means: dmremap help WORD; what mends it: dmremap-tools explain COMMAND";
 
-/// Runs the command that the words ask for, and exits with its status. On a terminal, a last line says which commands
-/// explain a refusal or a fault.
+/// Runs the command that the words ask for, and exits with its status. On a terminal, a last line names the commands
+/// that explain a refusal or a fault.
 fn main(rt: HostRuntime) -> ExitCode {
     let status = match begin(&rt) {
         Ok(status) => status,
@@ -96,7 +96,7 @@ fn main(rt: HostRuntime) -> ExitCode {
     ExitCode::from(status)
 }
 
-/// Does what the words ask for, if the stack has room for it, and returns the exit status.
+/// Runs the command that the words ask for, if the call stack has enough room, and returns the exit status.
 fn begin(rt: &HostRuntime) -> Result<u8, WordsFault> {
     if !has_stack_room(rt) {
         return Err(WordsFault::Memory);
@@ -104,8 +104,8 @@ fn begin(rt: &HostRuntime) -> Result<u8, WordsFault> {
     answer(rt)
 }
 
-/// Does what the words ask for, and returns the exit status. Never inlined, so that its stack frame exists only after
-/// the check that the stack has room for it.
+/// Runs the command that the words ask for, and returns the exit status. Never inlined, so that its frame is put on the
+/// call stack only after the check that there is room.
 #[inline(never)]
 fn answer(rt: &HostRuntime) -> Result<u8, WordsFault> {
     let arguments = arguments_of(rt)?;
@@ -165,7 +165,7 @@ fn arguments_of(rt: &HostRuntime) -> Result<Vec<String>, WordsFault> {
     }
 }
 
-/// Maps the requests of the standard input through the tables of files, with all snapshots fresh.
+/// Maps the requests of the standard input through the tables in files, with all snapshots fresh.
 fn map_files(
     rt: &HostRuntime,
     format: Format,
@@ -185,8 +185,8 @@ fn map_files(
     )
 }
 
-/// Maps the requests of the standard input through the tables of any source, starting from what its exception stores
-/// hold and after the requests of a file, if these are given.
+/// Maps the requests of the standard input through the tables of any source. The run starts in the state that the
+/// source's exception stores hold, and after the requests of a file, if either is given.
 fn map_from_state<O: Opens>(
     rt: &HostRuntime,
     source: &mut O,
@@ -223,8 +223,8 @@ fn do_with<'r>(
     }
 }
 
-/// Does a job other than `map` and `metadata` with what opens it. `read` writes the bytes of a device in whole
-/// blocks, so its output isn't gathered.
+/// Does a job other than `map` and `metadata` with the given source. The output of `read` isn't gathered, because
+/// `read` writes the bytes of a device in whole blocks.
 fn do_other<O: Opens>(rt: &HostRuntime, job: &Job<'_>, source: &mut O) -> u8
     requires { is_other (job_words job.now) ≡ true }
 {
@@ -235,7 +235,7 @@ fn do_other<O: Opens>(rt: &HostRuntime, job: &Job<'_>, source: &mut O) -> u8
     }
 }
 
-/// Does a job other than `map` and `metadata` with what opens it, and writes to `output`.
+/// Does a job other than `map` and `metadata` with the given source, and writes to `output`.
 fn do_to<O: Opens, W: Output>(rt: &HostRuntime, job: &Job<'_>, source: &mut O, output: &mut W) -> u8
     requires { is_other (job_words job.now) ≡ true }
 {
@@ -249,7 +249,7 @@ fn do_to<O: Opens, W: Output>(rt: &HostRuntime, job: &Job<'_>, source: &mut O, o
     )
 }
 
-/// Prints the LVM2 text of a volume group in images.
+/// Prints the LVM2 text of the volume group whose images this list names.
 fn print_text_of<'r>(rt: &'r HostRuntime, list: &'r str) -> Result<u8, WordsFault> {
     let GroupImages {
         list: mut paths,
@@ -264,7 +264,7 @@ fn print_text_of<'r>(rt: &'r HostRuntime, list: &'r str) -> Result<u8, WordsFaul
     ))
 }
 
-/// The files of a source, each opened at its first read, and the images of a list of paths, if there is one.
+/// The files of a source, each opened at its first read, and the images that a list of paths names, if there is one.
 fn parts_at<'r>(
     rt: &'r HostRuntime,
     format: Format,
@@ -281,7 +281,7 @@ fn parts_at<'r>(
     })
 }
 
-/// The images of a list, each opened at its first read.
+/// A list of paths and the images that it names, each opened at its first read.
 fn group_at<'r>(rt: &'r HostRuntime, list: &'r str) -> Result<FileGroup<'r>, WordsFault> {
     Ok(GroupImages {
         list: file_at(rt, list),
@@ -289,12 +289,12 @@ fn group_at<'r>(rt: &'r HostRuntime, list: &'r str) -> Result<FileGroup<'r>, Wor
     })
 }
 
-/// A file of the command, at this path.
+/// The file at this path, for one part of the command's input.
 fn file_at<'r, P>(rt: &'r HostRuntime, path: &'r str) -> File<'r, P> {
     Counted::new(PartFile::new(rt, path))
 }
 
-/// A file of the command, if its path is given.
+/// The file at this path, for one part of the command's input, if a path is given.
 fn file_if<'r, P>(rt: &'r HostRuntime, path: Option<&'r str>) -> Option<File<'r, P>> {
     match path {
         Some(path) => Some(file_at(rt, path)),
@@ -302,9 +302,9 @@ fn file_if<'r, P>(rt: &'r HostRuntime, path: Option<&'r str>) -> Option<File<'r,
     }
 }
 
-/// Prints why the words ask for no job, and returns the exit status. Running out of memory is reported as by any
-/// command, and help or a version that can't be printed as a failed output. Whether a message can be printed makes no
-/// difference.
+/// Prints why the words ask for no job, and returns the exit status. If memory ran out, the message is that of any
+/// command; if help or a version can't be printed, the output counts as failed. A message that can't be printed changes
+/// nothing.
 fn refuse(rt: &HostRuntime, fault: &WordsFault) -> u8 {
     let mut messages: Messages = Counted::new(rt.stderr());
     if let WordsFault::Memory = fault {

@@ -1,5 +1,5 @@
-//! The run of `map` over a loaded stack, from its start on. `map_whole` and `map_stored` make the same promises of a
-//! run, and this module keeps them.
+//! Runs `map` over a loaded stack that has a start. This module keeps the promises that `map_whole` and `map_stored`
+//! both make about a run.
 
 ghost use Rattle.dmremap.specs.Prelude.{IfOk, Option, IsErrAnd, Delivery, CanMap, Answers, IsOutOfMemory, IsBegunAt, IsOut, StreamsLeft, moved, MapsOver, Start};
 ghost use Rattle.dmremap.specs.declared.status.TheConstants.{STATUS_MEMORY};
@@ -12,7 +12,7 @@ use dm_stream::{Exchange, run};
 use dm_table::Output;
 use std::mem::forget;
 
-/// Runs requests over a stack from its start, and returns the exit status.
+/// Runs requests over a stack that has a start, and returns the exit status.
 pub(crate) fn map_from<'s, Q: Exchange<W>, W: Output, M: Output>(
     stack: &'s Stack,
     begun: Result<Prepared<'s>, Refusal>,
@@ -43,7 +43,7 @@ pub(crate) fn map_from<'s, Q: Exchange<W>, W: Output, M: Output>(
                 messages,
                 status,
             );
-            // The program ends soon, and the system then frees all memory at once.
+            // The program ends soon, and then the system frees all memory at once.
             forget(texts);
             forget(mapper);
             Exit::Ended(ending).status()

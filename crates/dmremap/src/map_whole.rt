@@ -1,7 +1,7 @@
-//! The whole way of `map`, from a source, a disk list and requests to the output and a message.
+//! All of `map`, from a source, a disk list and requests to the output and a message.
 //!
-//! The results depend only on the bytes that were delivered; the contract of `map_whole` is what the program
-//! promises. `main` passes in the real files and streams, tests pass in memory.
+//! The results depend only on the bytes that were delivered; the contract of `map_whole` is what the program promises.
+//! `main` passes in real files and streams, and tests pass in streams in memory.
 
 ghost use Rattle.dmremap.specs.Prelude.{Bool, List, None, Delivery, delivery, IsReadOn, Description, IsSound, AreLevelsEnough, BlockUnit, AreFewest, fewest, Answers, IsOne, Format, IsReadOnIf, delivery_if, StreamsLeft, moved, PartsOpen, Maps, fresh_start};
 ghost use Rattle.dmremap.specs.Limits.{AreLimits};
@@ -19,23 +19,23 @@ use dm_table::{Input, Output};
 use std::alloc::Global;
 use std::mem::forget;
 
-/// Maps requests through the devices of a source: reads the source and the disk list whole, checks
-/// them, and writes the pieces that each request touches. With `status`, a line for each snapshot
-/// follows if the requests end cleanly. Returns the exit status.
+/// Maps requests through the devices of a source: reads the source and the disk list whole, checks them, and writes the
+/// pieces that each request touches. With `status`, a line for each snapshot follows if the requests end without a
+/// fault. Returns the exit status.
 ///
 /// | Status | When |
 /// |---|---|
 /// | 0 | all requests were answered |
 /// | 1 | the source or the disk list was refused; nothing was written or flushed |
-/// | 3 | a request was bad; those before it were answered |
-/// | 4 | reading requests failed; those before the fault were answered |
+/// | 3 | a request was bad; the requests before it were answered |
+/// | 4 | reading requests failed; the requests before the fault were answered |
 /// | 5 | writing or flushing the output failed |
 /// | 6 | memory ran out while loading; nothing was written or flushed |
 ///
-/// The output never holds an answer back while a request is waited for: each read requires that the output has
-/// passed on all that it took, or has failed. At most one message is written, after the output was flushed. A
-/// refused load has the message of its first fault; a missing disk list that the format needs is refused like
-/// one that can't be read. Nothing is allocated once the load is done.
+/// No answer is held back while the program waits for a request: before each read, the output has passed on all that
+/// was written to it, or has failed. At most one message is written, after the output was flushed. The message of a
+/// refused load is that of its first fault; a missing disk list, if the format needs one, is refused like one that
+/// can't be read. Nothing is allocated once the load is done.
 ///
 /// Cost: near-linear in the source and the disk list; then linear in the requests, and for each request in its
 /// runs of sectors on one line, times the binary digits of the line counts of the devices below it.
@@ -55,7 +55,7 @@ pub fn map_whole<S: Input, D: Input, Q: Exchange<W>, W: Output, M: Output>(
         (moved W.past output.old output.new) (moved M.past messages.old messages.new) result }
     ensures one { (f : Format) (flag : Bool) (s d q : Delivery)
         → IsOne (Maps (PartsOpen f s d) fresh_start flag None q) }
-    // The exit status says how the requests were read, and what became of the output and of the messages.
+    // The exit status says how requests were read, what was written and flushed, and which message was reported.
     ensures left { StreamsLeft result (moved Q.past requests.old requests.new)
         (moved W.past output.old output.new) (moved M.past messages.old messages.new) }
     // No input is read after its end or after a fault.
@@ -72,7 +72,7 @@ pub fn map_whole<S: Input, D: Input, Q: Exchange<W>, W: Output, M: Output>(
         Ok(stack) => {
             let begun = begin(alloc, &stack);
             let status = map_from(&stack, begun, requests, output, messages, status);
-            // The program ends with this call, and the system then frees all memory at once.
+            // The program ends when this call returns, and then the system frees all memory at once.
             forget(stack);
             status
         }

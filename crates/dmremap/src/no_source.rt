@@ -1,4 +1,4 @@
-//! What opens a command that loads nothing. If it is opened all the same, its source can't be read.
+//! The source of a command that loads nothing. If such a source is opened all the same, it can't be read.
 
 ghost use Rattle.dmremap.specs.Prelude.{None, Read, fault_at, RefusedBy, Loaded, fresh_start};
 ghost use Rattle.std.specs.Prelude.{◌≡◌};

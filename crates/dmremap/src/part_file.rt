@@ -1,8 +1,8 @@
-//! A file of a load, opened at its first read and closed at its end.
+//! A file that a load reads, opened at its first read and closed at its end.
 //!
-//! So two pipes can be filled one after the other, and no file takes the descriptor of a closed standard input before
-//! requests are read. A file that can't be opened is an input that fails at its first read, so one refusal serves
-//! both, and the reason isn't reported. Each read is one read of the file.
+//! Thus two pipes can be filled one after the other, and no file gets the descriptor of a closed standard input before
+//! requests are read. A file that can't be opened is an input whose first read fails, so it is refused like one that
+//! can't be read, and the reason isn't reported. Each read is one read of the file.
 
 ghost use Rattle.dmremap.specs.Prelude.{IsErr, ReadConsumes};
 ghost use Rattle.std.specs.Io.{ReadsAtMost};
@@ -18,7 +18,7 @@ use std::io;
 use std::io::Read;
 use std::marker::PhantomData;
 
-/// A file of a load, with its path and, as the type `P`, its part in the command, so that no file is taken for another.
+/// A file that a load reads. The type `P` says which part of the input it holds, so that files can't be mixed up.
 #[derive(Drop)]
 pub(crate) struct PartFile<'r, R: Files, P> {
     files: &'r R,
@@ -39,10 +39,10 @@ pub(crate) struct EarlierPart {}
 /// The part of PATHS.
 pub(crate) struct PathsPart {}
 
-/// How far a file was read.
+/// How far a file has been read.
 #[derive(Drop)]
 pub(crate) enum Stage<F> {
-    /// The file wasn't read yet, or can't be opened.
+    /// The file hasn't been read yet, or can't be opened.
     Unopened,
     /// The file is open, and may have more bytes.
     Open(F, Opened),
@@ -67,7 +67,7 @@ impl<'r, R: Files, P> Read for PartFile<'r, R, P> {
 
     fn read(&mut self, buffer: &mut [u8]) -> io::Result<usize>
         ensures bound { ReadsAtMost result buffer.new }
-        // If std knows the file's bytes, a read neither loses nor invents any.
+        // If std knows the file's bytes, a read neither skips bytes nor makes any up.
         ensures bytes { ReadConsumes (left_of R.File.remaining self.old.stage)
             (left_of R.File.remaining self.new.stage) result buffer.new }
         // A file that can't be opened is never read as an empty one.

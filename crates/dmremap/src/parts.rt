@@ -1,5 +1,5 @@
-//! FILE, DISKS and PATHS as what opens a command: FILE and DISKS describe the devices; PATHS, if given, says which
-//! images hold their disks, and so the exception stores of their snapshots.
+//! Opens a command with FILE, DISKS and PATHS. FILE and DISKS describe the devices; PATHS, if given, says which images
+//! hold the disks, and with them the exception stores of snapshots.
 
 ghost use Rattle.dmremap.specs.Prelude.{delivery, delivered_if, delivery_if, PartsOpen, ArePartsOpened, ArePartsRead, places_in, range_answer, stored_start};
 ghost use Rattle.std.specs.Prelude.{◌≡◌};

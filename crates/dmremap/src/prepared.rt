@@ -1,7 +1,7 @@
-//! How a run of `map` starts over its stack: with a mapper in some state, and the texts of the disks' names.
+//! How a run of `map` starts over a stack: with a mapper in some state, and the texts of the disks' names.
 //!
-//! All memory of a run is allocated here, after the load and before a request is read. The state is the fresh one or
-//! that of the exception stores, perhaps changed by earlier requests.
+//! All memory of a run is allocated here, after the load and before a request is read. The snapshots are fresh, or as
+//! the exception stores say, and earlier requests may have changed them.
 
 ghost use Rattle.dmremap.specs.Prelude.{IfErr, IfOk, None, Some, IsErrAnd, start_state, CanMap, images_of, Contents, disk_contents, stored_state, IsOutOfMemory, IsReadOnIf, IsUnasked, delivered_if, AreImagesAsked, IsBegunAt, start_at, start_over, stored_start, ArePlayedIf, ArePlayedOver, Start, earlier_from, fresh_start};
 ghost use Rattle.dm_stream.specs.runs.Earlier.{HasPlayed};
@@ -39,7 +39,7 @@ pub(crate) fn begin(alloc: Global, stack: &Stack) -> Result<Prepared<'_>, Refusa
     }
 }
 
-/// Plays earlier requests, if there are any, in a run that has started.
+/// Plays earlier requests, if there are any, after a run has started.
 pub(crate) fn after_earlier<'s, B: Input>(
     stack: &'s Stack,
     begun: Result<Prepared<'s>, Refusal>,
@@ -66,7 +66,7 @@ pub(crate) fn after_earlier<'s, B: Input>(
     }
 }
 
-/// Starts a run in the state that the stack's exception stores hold in the images of a list.
+/// Starts a run in the state that the stack's exception stores hold; a list says which images hold the stores.
 pub(crate) fn begin_in<'s, I: Images>(
     alloc: Global,
     stack: &'s Stack,
@@ -81,7 +81,7 @@ pub(crate) fn begin_in<'s, I: Images>(
     match listed_images(alloc, stack, &disks.paths) {
         Ok(places) => {
             let begun = begin_stored(alloc, stack, &places, &mut disks.images);
-            // The program ends soon, and the system then frees all memory at once.
+            // The program ends soon, and then the system frees all memory at once.
             forget(places);
             begun
         }
@@ -89,8 +89,8 @@ pub(crate) fn begin_in<'s, I: Images>(
     }
 }
 
-/// Starts a run in the state that the stack's exception stores hold in the images of a list of paths, or with all
-/// snapshots fresh if there is no list.
+/// Starts a run in the state that the stack's exception stores hold, if a list of paths says which images hold them, or
+/// else with all snapshots fresh.
 pub(crate) fn begin_by<'s, P: Input, I: Images>(
     alloc: Global,
     stack: &'s Stack,
@@ -110,7 +110,7 @@ pub(crate) fn begin_by<'s, P: Input, I: Images>(
         Some(paths) => match load_images(alloc, stack, paths) {
             Ok(places) => {
                 let begun = begin_stored(alloc, stack, &places, images);
-                // The program ends soon, and the system then frees all memory at once.
+                // The program ends soon, and then the system frees all memory at once.
                 forget(places);
                 begun
             }
@@ -120,7 +120,7 @@ pub(crate) fn begin_by<'s, P: Input, I: Images>(
     }
 }
 
-/// Starts a run in the state that the stack's exception stores hold, if its disks lie at these places.
+/// Starts a run in the state that the stack's exception stores hold, given the places of its disks in images.
 pub(crate) fn begin_stored<'s, I: Images>(
     alloc: Global,
     stack: &'s Stack,
@@ -141,7 +141,7 @@ pub(crate) fn begin_stored<'s, I: Images>(
     }
 }
 
-/// Plays earlier requests, if there are any, in the mapper's state.
+/// Plays earlier requests, if there are any, which changes the mapper's state.
 fn play_if<'s, B: Input>(
     stack: &'s Stack,
     mapper: &mut Mapper<'s, TrieTaken>,

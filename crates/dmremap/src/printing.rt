@@ -1,7 +1,7 @@
-//! What the commands print that read no requests: what a load gives, what a name says, or what the manual says of a
-//! word.
+//! What is printed by the commands that read no requests: the devices of a load, a name or its parts, or what the
+//! manual says about a word.
 //!
-//! Each function writes its text and returns how the command would exit; nothing is flushed here.
+//! Each function writes its text and returns the exit that the command would have; none flushes the output.
 //! `specs/Printing.antt` defines what is printed.
 
 ghost use Rattle.dmremap.specs.Prelude.{option_map, built, Does, HasDone, Prints, ReportSays, SaidBy, SplitSays, line, name_said, written_as};
@@ -17,7 +17,7 @@ use dm_table::{
 use lvm_volume::{NameFault, build_name, spaced_parts};
 use std::alloc::Global;
 
-/// Prints the devices of a stack in this form.
+/// Prints the devices of a stack, in this form.
 pub(crate) fn print_stack<W: Output>(form: TableForm, stack: Stack, output: &mut W) -> Exit
     ensures { HasDone (Does (SaidBy (λ said. Prints (written_as form stack.devices) ≡ said)))
         (W.past output.old) (W.past output.new) result }
@@ -26,7 +26,7 @@ pub(crate) fn print_stack<W: Output>(form: TableForm, stack: Stack, output: &mut
     Exit::after(write_devices(form, &devices, output))
 }
 
-/// Writes devices in this form.
+/// Writes devices, in this form.
 fn write_devices<W: Output>(
     form: TableForm,
     devices: &[DeviceSpec],
@@ -79,7 +79,7 @@ pub(crate) fn print_parts<W: Output>(alloc: Global, name: &str, output: &mut W) 
     }
 }
 
-/// Prints a text of whole lines.
+/// Prints a text that ends with a newline.
 pub(crate) fn print_text<W: Output>(text: &[u8], output: &mut W) -> Exit
     ensures { HasDone (Does (SaidBy (λ said. Prints text.now ≡ said)))
         (W.past output.old) (W.past output.new) result }

@@ -1,6 +1,6 @@
-//! The bytes of a device's sectors, for an opened stack, from the images that hold its disks.
+//! Writes the bytes of a device's sectors, for an opened stack, from the images that hold the stack's disks.
 //!
-//! `specs/ReadWhole.antt` defines the answer, given where the disks lie and what images hold there.
+//! `specs/ReadWhole.antt` defines the answer, given the places of the disks in images and the contents of the images.
 
 ghost use Rattle.dmremap.specs.Prelude.{IfErr, IfOk, IfSome, List, Ok, Option, Result, Some, InputPast, written_since, HasWritten, Contents, disk_contents, Place, Does, exit_status, failed_writes, range_words, AreSettled, IsExtentOf, count_in, extent_answer, extent_of, range_answer, written_exit, AskedBy, LoadFault};
 ghost use Rattle.dmremap.specs.declared.status.TheConstants.{STATUS_MEMORY};
@@ -25,7 +25,7 @@ pub(crate) struct Extent {
     pub(crate) len: u64,
 }
 
-/// How many sectors to read from sector `from` of a device with `len` in all; None if they go past its end.
+/// How many sectors to read from sector `from` of a device with `len` sectors; None if one of them is past the end.
 fn count_in(from: u64, count: Option<u64>, len: u64) -> Option<u64>
     ensures is { result ≡ count_in from count len }
     ensures inside { IfSome result (λ count. from + count ≤ len) }
@@ -41,7 +41,7 @@ fn count_in(from: u64, count: Option<u64>, len: u64) -> Option<u64>
     Some(asked)
 }
 
-/// The extent of a stack that a range asks for.
+/// The extent of a stack that a range names, or a refusal.
 fn extent_of(stack: &Stack, range: SectorRange<'_>) -> Result<Extent, Refusal>
     ensures is { result ≡ extent_of stack.now (range_words range.entry) }
     ensures inside { IfOk result (IsExtentOf stack.now) }
@@ -59,7 +59,7 @@ fn extent_of(stack: &Stack, range: SectorRange<'_>) -> Result<Extent, Refusal>
     }
 }
 
-/// The exit of a command that wrote sectors, all of them or up to one that has no bytes, or whose write failed.
+/// The exit of a command that wrote sectors: done, stopped at one that can't be read, or a write fault.
 fn written_exit(written: Result<Option<Stop>, OutFault>) -> Exit
     ensures { result ≡ written_exit written }
 {
@@ -70,8 +70,8 @@ fn written_exit(written: Result<Option<Stop>, OutFault>) -> Exit
     }
 }
 
-/// Writes the bytes of an extent of a stack, in the state that its exception stores hold, if its disks lie at these
-/// places. Returns how the command would exit, and doesn't flush the output.
+/// Writes the bytes of an extent of a stack, in the state that its exception stores hold, given the places of its disks
+/// in images. Returns the exit that the command would have, and doesn't flush the output.
 fn read_extent<I: Images, W: Output>(
     alloc: Global,
     stack: &Stack,
@@ -103,8 +103,8 @@ fn read_extent<I: Images, W: Output>(
     }
 }
 
-/// Writes the bytes of a range of a device's sectors, if the stack's disks lie at these places, and returns how the
-/// command would exit. Doesn't flush the output.
+/// Writes the bytes of a range of a device's sectors, given the places of the stack's disks in images, and returns the
+/// exit that the command would have. Doesn't flush the output.
 pub(crate) fn read_range<I: Images, W: Output>(
     alloc: Global,
     stack: &Stack,
@@ -127,7 +127,7 @@ pub(crate) fn read_range<I: Images, W: Output>(
         Ok(places) => match extent_of(stack, range) {
             Ok(extent) => {
                 let exit = read_extent(alloc, stack, extent, &places, images, output);
-                // The program ends soon, and the system then frees all memory at once.
+                // The program ends soon, and then the system frees all memory at once.
                 forget(places);
                 exit
             }

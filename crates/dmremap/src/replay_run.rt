@@ -1,6 +1,6 @@
-//! Replays requests on the disks of a stack: the handler of a replay, and its run over request lines.
+//! Replays requests on the disks of a stack: the handler of a replay, and the run of the handler over request lines.
 //!
-//! `specs/ReplayOutcome.antt` defines what is written for all requests, and what one request adds to it.
+//! `specs/ReplayOutcome.antt` defines what is written for all requests, and what is written for each of them.
 
 ghost use Rattle.dmremap.specs.Prelude.{false, refl, ◌∙◌, delivery, written_since, HasWrittenTo, IsReadOn, written_to_none, written_to_more, requests_of, replay_from, Does, HasDone, failed_writes, CanMap, ReplaysStack, HasPlayed, HasStopped, IsPlayed, AskedBy, HasMetBy};
 ghost use Rattle.dmremap.specs.laws.Played.{played_none, played_more, stopped_more};
@@ -15,12 +15,12 @@ use dm_table::{InFault, LoadFault, OutFault, Output, Part, Request};
 use std::alloc::Global;
 use std::marker::PhantomData;
 
-/// Plays requests, and writes what their sectors answer to an output.
+/// Plays requests, and writes the answers of their sectors to an output.
 #[derive(Drop)]
 struct RequestPlayer<'m, 's, W> {
     alloc: Global,
     output: &'m mut W,
-    /// The replayed stack, whose lifetime the answers share.
+    /// The replayed stack, of which only the lifetime is needed here, because the answers share it.
     stack: PhantomData<&'s Stack>,
 }
 
@@ -130,8 +130,8 @@ fn play_requests<'s, Q: Exchange<W>, W: Output>(
     }
 }
 
-/// Replays requests on the disks of a stack, starting in the state of a mapper, and returns how the command would
-/// exit. Doesn't flush the output.
+/// Replays requests on the disks of a stack, starting in the state of a mapper, and returns the exit that the command
+/// would have. Doesn't flush the output.
 pub(crate) fn replay_stack<'s, Q: Exchange<W>, W: Output>(
     alloc: Global,
     stack: &'s Stack,

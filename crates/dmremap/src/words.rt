@@ -1,8 +1,8 @@
 //! The words of the command line, as clap's builder reads them.
 //!
 //! The command line is built one word at a time, by functions that hold nothing else when memory runs out. A new
-//! command is a line in `program` and one in `job_in` or, if it loads a source, in `loading_job`. A new format is a
-//! word of `FORMATS` and of `format_named`. `images`, which is no text format, is handled in `source_in`.
+//! command is a line in `program` and one in `job_in` or, if the command loads a source, in `loading_job`. A new format
+//! is a word of `FORMATS` and of `format_named`; `images`, whose FILE is a list of paths, is handled in `source_in`.
 
 ghost use Rattle.dmremap.specs.Prelude.{[], IfErr, IfOk, List, codes, false, option_map, true, job_words, range_words, source_words, HasApp, TakeFormats, TakesNames, bare_app, before_rule, command_line, flag_rule, format_named, format_rule, formats, loading_app, map_app, metadata_app, name_app, optional_rule, paths_rule, read_app, replay_app, required_rule, sectors_rule, split_app, version_rule, files_at, has_flag, has_lone_hyphen, images_at, job_in, last_of, loading_job, name_job, number_at, number_of, range_at, range_job, read_from, read_job, said_by, source_in, source_job, word_of, IsCommandOf, IsFaultOf, IsJobOf, IsOfKind, IsRefusedFor, IsTaken, IsUntaken, asked_word, fault_from, is_command, is_unknown, status_of};
 ghost use Rattle.clap.specs.Walk.{texts};
@@ -26,14 +26,14 @@ use std::alloc::{AllocError, Global};
 use std::io;
 use thiserror::Error;
 
-/// Why words ask for no job.
+/// Why the words of a command line ask for no job.
 #[derive(Debug, Drop, Error)]
 pub enum WordsFault {
-    /// clap refuses the words, or was asked for help or the version; the text is clap's.
+    /// clap refuses the words, or was asked for help or the version; the text comes from clap.
     #[error("{0}")]
     Words(clap::Error),
-    /// DISKS or `--paths` is missing though the format needs it, or is given though the format has none; or DEVICE is
-    /// missing.
+    /// DISKS or `--paths` is missing although the format needs it, or is given although the format has none; or DEVICE
+    /// is missing.
     #[error("dmremap: words: disks")]
     Disks,
     /// Memory ran out.
@@ -52,14 +52,14 @@ const IMAGES: &[&str] = &["images"];
 
 // ---- from clap's matches to a job
 
-/// The text of a word; None if it wasn't given.
+/// The text of a word; None if the word wasn't given.
 fn text_of<'a>(found: &ArgMatches<'a>, id: &str) -> Option<&'a str>
     ensures { option_map (λ text. text.now) result ≡ first_of id.now (rows_of (found_of found.now)) }
 {
     found.get_str(id)
 }
 
-/// The text of a required word, which clap never leaves out.
+/// The text of a required word; clap always has one.
 fn word_of<'a>(found: &ArgMatches<'a>, id: &str) -> &'a str
     ensures { result.now ≡ word_of id.now (rows_of (found_of found.now)) }
 {
@@ -69,7 +69,7 @@ fn word_of<'a>(found: &ArgMatches<'a>, id: &str) -> &'a str
     }
 }
 
-/// Whether the flag was given.
+/// Whether a flag was given.
 fn has_flag(found: &ArgMatches<'_>, id: &str) -> bool
     ensures { result ≡ has_flag id.now (rows_of (found_of found.now)) }
 {
@@ -90,7 +90,7 @@ fn format_named(word: &str) -> Format
     }
 }
 
-/// The source of these files; None if the format needs DISKS and there is none, or has no DISKS and one is given.
+/// The source of these files; None if the format needs DISKS and none is given, or has no DISKS and one is given.
 fn files_at<'a>(format: Format, file: &'a str, disks: Option<&'a str>) -> Option<Source<'a>>
     ensures { option_map source_words result
         ≡ files_at format file.entry.now (option_map (λ d. d.now) disks.entry) }
@@ -105,7 +105,7 @@ fn files_at<'a>(format: Format, file: &'a str, disks: Option<&'a str>) -> Option
     }
 }
 
-/// The source of a list of images; None if DISKS or `--paths` is given, too.
+/// The source of a list of images; None if DISKS or `--paths` is given as well.
 fn images_at<'a>(
     list: &'a str,
     disks: Option<&'a str>,
@@ -120,7 +120,7 @@ fn images_at<'a>(
     }
 }
 
-/// The source that a command's words name; None if DISKS or `--paths` doesn't fit FORMAT.
+/// The source that the words of a command name; None if DISKS or `--paths` doesn't fit FORMAT.
 fn source_in<'a>(found: &ArgMatches<'a>, disks: Option<&'a str>) -> Option<Source<'a>>
     ensures { option_map source_words result
         ≡ source_in (rows_of (found_of found.now)) (option_map (λ d. d.now) disks.entry) }
@@ -133,7 +133,7 @@ fn source_in<'a>(found: &ArgMatches<'a>, disks: Option<&'a str>) -> Option<Sourc
     }
 }
 
-/// The job of a command that loads this source.
+/// The job of the command of this name, which loads this source.
 fn loading_job<'a>(command: &str, found: &ArgMatches<'a>, source: Source<'a>) -> Job<'a>
     ensures { job_words result
         ≡ loading_job command.now (rows_of (found_of found.now)) (source_words source.entry) }
@@ -171,7 +171,7 @@ fn source_job<'a>(command: &str, found: &ArgMatches<'a>) -> Option<Job<'a>>
     }
 }
 
-/// The number that a text spells; clap accepts no other text.
+/// The number that a text spells; clap accepts only texts that spell one.
 fn number_of(text: &str) -> Option<u64>
     ensures { result ≡ number_of text.now }
 {
@@ -202,7 +202,7 @@ fn range_at<'a>(found: &ArgMatches<'a>, device: &'a str) -> SectorRange<'a>
     }
 }
 
-/// DISKS and DEVICE, of two optional words: DEVICE is the last one given.
+/// DISKS and DEVICE, from two optional words: DEVICE is the last word that was given, and DISKS the one before it.
 fn last_of<'a>(
     second: Option<&'a str>,
     third: Option<&'a str>,
@@ -216,7 +216,7 @@ fn last_of<'a>(
     }
 }
 
-/// The job of `read` from a source; None if the source is files and there is no `--paths`.
+/// The job of `read` from a source; None if the source consists of files and `--paths` isn't given.
 fn read_from<'a>(
     source: Source<'a>,
     paths: Option<&'a str>,
@@ -250,7 +250,7 @@ fn range_job<'a>(
     }
 }
 
-/// The job of `read`; None if a word is missing or doesn't fit.
+/// The job of `read`; None if a word is missing, or doesn't fit FORMAT.
 fn read_job<'a>(found: &ArgMatches<'a>) -> Option<Job<'a>>
     ensures { option_map job_words result ≡ read_job (rows_of (found_of found.now)) }
 {
@@ -272,7 +272,7 @@ fn name_job<'a>(found: &ArgMatches<'a>) -> Job<'a>
     }
 }
 
-/// The job of a command with these words; None if DISKS or `--paths` is missing or doesn't fit.
+/// The job of the command of this name with these words; None if DISKS or `--paths` is missing or doesn't fit FORMAT.
 fn job_in<'a>(command: &str, found: &ArgMatches<'a>) -> Option<Job<'a>>
     ensures { option_map job_words result ≡ job_in command.now (rows_of (found_of found.now)) }
 {
@@ -285,7 +285,7 @@ fn job_in<'a>(command: &str, found: &ArgMatches<'a>) -> Option<Job<'a>>
     }
 }
 
-/// The job of the subcommand that clap found; clap accepts no words without one.
+/// The job of the subcommand that clap found; clap refuses words without a subcommand.
 fn said_by<'a>(matches: &ArgMatches<'a>) -> Option<Job<'a>>
     ensures { option_map job_words result ≡ said_by (subcommand_rows_of matches.now) }
 {
@@ -298,7 +298,7 @@ fn said_by<'a>(matches: &ArgMatches<'a>) -> Option<Job<'a>>
 // ---- faults
 
 impl WordsFault {
-    /// The exit status of the fault: done if help or the version was asked for, or else that of bad words or of
+    /// The exit status of the fault: done for help or the version, and otherwise the status for bad words or for
     /// running out of memory.
     pub fn status(&self) -> u8
         ensures { result ≡ status_of self.now }
@@ -316,7 +316,7 @@ impl WordsFault {
         }
     }
 
-    /// Whether the fault is an unknown command.
+    /// Whether the fault is that a command is unknown.
     fn is_unknown(&self) -> bool
         ensures { result ≡ is_unknown self.now }
     {
@@ -329,7 +329,7 @@ impl WordsFault {
         }
     }
 
-    /// Prints help or the version to the standard output, if that was asked for, and anything else to the standard
+    /// Prints the fault: help or the version, if asked for, to the standard output, and anything else to the standard
     /// error.
     pub fn print<R: Print + Eprint>(&self, rt: &R) -> io::Result<()> {
         match self {
@@ -367,7 +367,7 @@ fn format_parser<'a>() -> ValueParser<'a>
     ValueParser::Names(FORMATS)
 }
 
-/// The parser of FORMAT for `metadata`, which accepts only `images`.
+/// The parser of FORMAT for `metadata`, whose only format is `images`.
 fn images_parser<'a>() -> ValueParser<'a>
     ensures { TakesNames (codes "images" ∷ []) result }
 {
@@ -393,7 +393,7 @@ fn optional<'a>(alloc: Global, id: &'a str, value_name: &'a str, help: &'a str) 
     Arg::new(alloc, id).value_name(value_name).help(help)
 }
 
-/// FORMAT: a required argument that must be one of the parser's words.
+/// FORMAT: a required argument that must be one of the words of this parser.
 fn format_argument<'a>(alloc: Global, parser: ValueParser<'a>) -> Arg<'a>
     ensures rule { rule_of result ≡ format_rule parser.entry }
     ensures local { result.global ≡ false }
@@ -435,7 +435,7 @@ fn sectors_option<'a>(alloc: Global, id: &'a str, value_name: &'a str, help: &'a
         .value_parser(ValueParser::unsigned(0, u64::MAX))
 }
 
-/// A command with its help texts, and without arguments.
+/// A command with help texts, but without arguments.
 fn titled<'a>(alloc: Global, name: &'a str, about: &'a str, notes: &'a str) -> Command<'a>
     ensures { app_of result ≡ new_app name.entry.now }
 {
@@ -454,7 +454,7 @@ fn with_word<'a>(
     command?.arg(word)
 }
 
-/// Sets the usage line that the command's help shows, unless memory ran out.
+/// Sets the usage line in the help of a command, unless memory ran out.
 fn with_usage<'a>(
     command: Result<Command<'a>, AllocError>,
     usage: &'a str,
@@ -569,7 +569,7 @@ fn split_command<'a>(alloc: Global) -> Result<Command<'a>, AllocError>
     with_word(command, required(alloc, "name", "NAME", help::NAME_HELP))
 }
 
-/// The program with its help texts and version, without commands and flags.
+/// The program with help texts and a version, but without commands and flags.
 fn bare_program<'a>(alloc: Global) -> Command<'a>
     ensures { app_of result ≡ bare_app }
 {
@@ -580,7 +580,7 @@ fn bare_program<'a>(alloc: Global) -> Command<'a>
         .disable_version_flag(true)
 }
 
-/// The program with its version flag, without commands. Unlike clap's own version flag, it has no short form.
+/// The program with its version flag, but without commands. The flag has no short form, unlike clap's own version flag.
 fn program_alone<'a>(alloc: Global) -> Result<Command<'a>, AllocError>
     ensures { HasApp (with_rule bare_app version_rule) result }
 {
@@ -622,14 +622,14 @@ fn program<'a>(alloc: Global) -> Result<Command<'a>, AllocError>
 
 // ---- words
 
-/// The fault for an argument that isn't UTF-8, so that there are no words to read.
+/// The fault for an argument that isn't UTF-8; the words can't be read then.
 pub fn not_text(alloc: Global) -> WordsFault
     ensures { IsOfKind kind.InvalidValue result }
 {
     refusal(alloc, ErrorKind::InvalidValue, NOT_TEXT)
 }
 
-/// A refusal by the program itself, in the form of clap's errors.
+/// A refusal by the program itself rather than by clap, in the form of clap's errors.
 fn refusal(alloc: Global, kind: ErrorKind, text: &str) -> WordsFault
     ensures { IsOfKind kind result }
 {
@@ -639,7 +639,7 @@ fn refusal(alloc: Global, kind: ErrorKind, text: &str) -> WordsFault
     }
 }
 
-/// The refusal of a word that `help` doesn't know; its text lists the words that `help` knows.
+/// The refusal of a word that `help` can't explain; its text lists the words that `help` explains.
 fn unknown_word(alloc: Global, word: &str) -> WordsFault
     ensures { IsOfKind kind.InvalidSubcommand result }
 {
@@ -651,7 +651,7 @@ fn unknown_word(alloc: Global, word: &str) -> WordsFault
     }
 }
 
-/// The fault of refused words; if they are `help` with an unknown word, the fault lists the words that `help` knows.
+/// The fault for refused words; for `help` with an unknown word, a fault that lists the words that `help` explains.
 fn with_words_listed(alloc: Global, words: &[&str], fault: WordsFault) -> WordsFault
     ensures { (texts : List Text) → IsUntaken texts fault → IsUntaken texts result }
 {
@@ -661,7 +661,7 @@ fn with_words_listed(alloc: Global, words: &[&str], fault: WordsFault) -> WordsF
     }
 }
 
-/// An error of clap's with this kind and this text.
+/// An error in the form of clap's, of this kind and with this text.
 fn refusal_error(alloc: Global, kind: ErrorKind, text: &str) -> Result<clap::Error, AllocError>
     ensures { IfOk result (λ error. kind_of error ≡ kind) }
 {
@@ -686,7 +686,7 @@ fn has_lone_hyphen(words: &[&str]) -> bool
     false
 }
 
-/// The job that words ask for if clap accepts them; None if DISKS or `--paths` doesn't fit.
+/// The job that words ask for if clap accepts them; None if DISKS or `--paths` doesn't fit FORMAT.
 fn read_taken<'a>(alloc: Global, words: &'a [&'a str]) -> Result<Option<Job<'a>>, WordsFault>
     ensures taken { IfOk result (λ said. IsTaken (texts words.now) (option_map job_words said)) }
     ensures untaken { IfErr result (IsUntaken (texts words.now)) }
@@ -710,7 +710,7 @@ fn read_command<'a>(alloc: Global, words: &'a [&'a str]) -> Result<Job<'a>, Word
     }
 }
 
-/// Whether a word of messages is also the name of a command.
+/// Whether a word of messages is also the name of a command, so that `help` with this word explains the command.
 fn is_command(word: &str) -> bool
     ensures { result ≡ is_command word.now }
 {
@@ -730,10 +730,10 @@ fn asked_word<'a>(words: &'a [&'a str]) -> Option<&'a str>
 }
 
 /// The job that the words ask for; the first word is the program's name. No file is opened. `help` with a word of
-/// messages is a job. `help` with a command and other requests for help or the version are faults with that text, and
-/// so is no word at all. A lone hyphen, which clap would accept as a value, is refused before the first `--`, whatever
-/// the other words are. DISKS that is missing or not needed is reported only if clap accepts the words. The command
-/// line is built anew at each call, and once more for a refusal of the program's own; the words are scanned twice.
+/// messages is a job; any other request for help or the version, and no word at all, is a fault with the text to print.
+/// A lone hyphen before the first `--`, which clap would accept as a value, is refused, whatever the other words are.
+/// DISKS that is missing or not allowed is reported only if clap accepts the words. The command line is built anew at
+/// each call, and once more if the program itself refuses the words; the words are scanned twice.
 pub fn read_words<'a>(alloc: Global, words: &'a [&'a str]) -> Result<Job<'a>, WordsFault>
     ensures job { IfOk result (IsJobOf (texts words.now)) }
     ensures fault { IfErr result (IsFaultOf (texts words.now)) }

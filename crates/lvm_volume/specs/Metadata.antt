@@ -1,4 +1,4 @@
--- Which devices and disks a metadata text describes, and for which fault a text is refused.
+-- Which devices and disks a metadata text describes, or for which fault it is refused.
 use Rattle.lvm_volume.specs.Base.{ℕ, List, [], None, Some, take, IsUtf8, TextFault, Source, NotText, LoadFault, DeviceSpec, Disk, Tree, newlines, Describes, HasFault, fault_at, first_fault}
 use Rattle.std.specs.Prelude.{◌≡◌, ◌⊎◌, ◌+◌, ◌∷◌, ◌++◌}
 use Rattle.std.specs.Str.Lossy.{utf8_valid_len}
@@ -14,7 +14,7 @@ pub record SaysTree (source : List ℕ) (tree : Tree) : Type 0 where
   pub utf8 : IsUtf8 source
   pub says : Describes source tree
 
--- the checks of a group in order, the last of them for the device names of its volumes
+-- the checks of a group in order; the last one checks the device names of the logical volumes
 abbrev pub metadata_checks : Tree → List (List LoadFault)
 metadata_checks tree = group_checks tree ++ unnamed (group_of tree) ∷ []
 
@@ -25,7 +25,7 @@ pub record DescribesGroup (source : List ℕ) (tables : List DeviceSpec × List 
   pub sound : first_fault (metadata_checks tree) ≡ None
   pub is : tables ≡ tables_of (group_of tree)
 
--- the text is refused for this fault: for a byte that isn't UTF-8, else for a fault of the text, else for a fault of its group
+-- the text is refused for this fault: a byte that isn't UTF-8, or else a fault of the text, or else a fault of the group that the text describes
 pub data IsRefusedText (source : List ℕ) (fault : LoadFault) : Type 0 where
   NotUtf8 : ¬ (IsUtf8 source) → fault ≡ fault_at Source NotText (bad_byte_line source) → IsRefusedText source fault
   OfText : IsUtf8 source → (found : TextFault) → HasFault source found → fault ≡ text_fault found → IsRefusedText source fault

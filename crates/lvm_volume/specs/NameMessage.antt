@@ -1,4 +1,4 @@
--- The messages for parts that no device name can be built from.
+-- The messages for names that can't be built from their parts.
 use Rattle.lvm_volume.specs.Base.{ℕ, List, codes, memory_message, NameFault, Letter, HyphenFirst, Empty, Long}
 use Rattle.lvm_volume.specs.declared.fault.NameFault.TheVariants.{Memory}
 use Rattle.std.specs.Prelude.{◌++◌}
@@ -7,7 +7,7 @@ use Rattle.std.specs.Prelude.{◌++◌}
 abbrev pub name_refusal : List ℕ → List ℕ
 name_refusal word = codes "dmremap: name: " ++ word ++ codes "\n"
 
--- the message for a fault of the parts of a name; out of memory has the same message as elsewhere
+-- the message for a fault of the parts of a name; if memory ran out, it is the message of any command that is out of memory
 abbrev pub name_message : NameFault → List ℕ
 name_message Letter = name_refusal (codes "letter")
 name_message HyphenFirst = name_refusal (codes "hyphen")

@@ -1,4 +1,4 @@
--- The names that contracts use, in this crate and in crates above, in one place.
+-- The names that contracts cite, in this crate and in crates above, re-exported from one place.
 pub use Rattle.lvm_volume.specs.Base.{AllByRecursion, Answers, Bool, Err, IfErr, IfNone, IfOk, IfSome, IsMemoryFault, IsTrue, IsUtf8, List, MatchOption, MatchResult, Memory, None, NotText, OnOk, Some, Source, Tree, Unknown, [], bytes_eq, codes, content_view, decimal, false, fault_at, first_fault, first_or, flat_map, get_by, is_disk_name, item_view, length, list_all, list_any, map, nat_cmp, nat_lt, node_of, node_view, not, option_and_then, option_map, range_with_len, result_err, scalar_view, scalar_views, sections_of, slice_cmp, slice_index_or, string_bytes, true, unless, unwrap_or, zip, ℕ, ⊤}
 pub use Rattle.lvm_volume.specs.Cuts.{after_hyphen, first_slice, later_slices, slice_length, slices_of, with_layer}
 pub use Rattle.lvm_volume.specs.Metadata.{DescribesGroup, IsRefusedText, NotUtf8, OfGroup, OfText, SaysOneThing, SaysTree, bad_byte_line, metadata_checks}

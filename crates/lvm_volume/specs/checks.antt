@@ -1,4 +1,4 @@
--- The checks of a group after those of its fields: what segments refer to, how extents are used, and snapshots.
+-- The checks of a group that come after those of its fields: what segments refer to, how extents are used, and snapshots.
 pub mod Extents
 pub mod SegmentCheck
 pub mod Used

@@ -1,4 +1,4 @@
--- What the sections of a volume group say, and the roles that logical volumes have for snapshots.
+-- What the sections of a volume group describe, and the roles that logical volumes have for snapshots.
 pub mod Group
 pub mod GroupCode
 pub mod GroupFields

@@ -1,3 +1,3 @@
--- The checks of a group in order, and the devices and disks that a group gives.
+-- The checks of a group in order, and the devices and disks that a group becomes.
 pub mod GroupRef
 pub mod Tables

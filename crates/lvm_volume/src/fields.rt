@@ -1,4 +1,4 @@
-//! The fields of a metadata text: their valid content, and a reader that runs both checks of fields in one pass.
+//! The fields of a metadata text: which content is valid, and a reader that runs both checks of fields in one pass.
 
 pub(crate) mod fits;
 pub(crate) mod reader;

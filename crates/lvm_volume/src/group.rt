@@ -1,5 +1,5 @@
-//! What the sections of a volume group say: its physical volumes, its logical volumes with their segments, and the
-//! roles that volumes have for snapshots.
+//! What the sections of a volume group describe: its physical volumes, its logical volumes with their segments, and the
+//! roles that logical volumes have for snapshots.
 
 pub(crate) mod group_fields;
 pub(crate) mod key;

@@ -1,4 +1,4 @@
-//! The devices and disks of groups, with the text lines that they come from, which no command prints.
+//! The devices and disks of groups, and the lines of the text that describe them, which no command prints.
 //!
 //! Refused texts are tested on the built program (`tests/outside`).
 
@@ -39,7 +39,7 @@ vg0 {
 }
 "#;
 
-/// Replaces line 24 of `ONE`, which adds a second volume with two stripes on lines 25 to 36.
+/// Replaces line 24 of `ONE` to add a second volume with two stripes on lines 25 to 36.
 const SECOND: &str = r#"    }
     lv-1 {
       status = ["READ"]
@@ -54,7 +54,7 @@ const SECOND: &str = r#"    }
       }
     }"#;
 
-/// Replaces line 24 of `ONE`, which adds a snapshot of the first volume: its store on lines 25 to 35, its record after.
+/// Replaces line 24 of `ONE` to add a snapshot of the first volume: its store on lines 25 to 35, then its record.
 const SNAPSHOT: &str = r#"    }
     snap {
       status = ["READ", "WRITE", "VISIBLE"]
@@ -80,15 +80,14 @@ const SNAPSHOT: &str = r#"    }
       }
     }"#;
 
-/// The devices and the disks of a text.
+/// The devices and the disks that a text describes.
 fn tables_of(rt: &impl Abort, alloc: Global, text: &str) -> (Vec<DeviceSpec>, Vec<Disk>) {
     let top = parse(alloc, text).expect(rt, "a text");
     let group = VolumeGroup::read(alloc, &top).expect(rt, "a group");
     group.tables(alloc).expect(rt, "tables")
 }
 
-/// Asserts how devices are written in the concise form, and the numbers of the text lines that the devices and
-/// their lines come from.
+/// Asserts the concise form of devices, and the numbers of the text lines that describe each device and its lines.
 fn check_devices(
     rt: &impl Abort,
     alloc: Global,
@@ -107,7 +106,7 @@ fn check_devices(
     }
 }
 
-/// Asserts the names and the lengths of disks, and the numbers of the text lines that they come from.
+/// Asserts the names and the lengths of disks, and the numbers of the text lines that describe them.
 fn check_disks(rt: &impl Abort, disks: &[Disk], wanted: &[(&str, u64, u64)]) {
     assert_eq!(rt; disks.len(), wanted.len());
     for (disk, &(name, len, number)) in disks.iter().zip(wanted) {
@@ -118,7 +117,7 @@ fn check_disks(rt: &impl Abort, disks: &[Disk], wanted: &[(&str, u64, u64)]) {
     }
 }
 
-/// A text with its line `number`, counted from 1, replaced.
+/// A text in which line `number`, counted from 1, is replaced.
 fn with_line(alloc: Global, text: &str, number: usize, new: &str) -> Result<String, AllocError> {
     let mut changed = String::new(alloc);
     for (index, line) in text.lines().enumerate() {
@@ -135,8 +134,8 @@ const ON_DEVICE: &[DiskRow] = &[("/dev/sda1", 1_050_624, 6)];
 
 const ON_KEY: &[DiskRow] = &[("pv0", 1_050_624, 6)];
 
-/// A line of `ONE` and its replacement, or 0 for none; then the device in the concise form, and the disks, of the
-/// changed text.
+/// The number of a line of `ONE`, or 0 for none, and a line to replace it; then the device in the concise form and the
+/// disks, as the changed text describes them.
 static OF_ONE: [(usize, &str, &str, &[DiskRow]); 14] = [
     (
         0,
@@ -219,8 +218,8 @@ static OF_ONE: [(usize, &str, &str, &[DiskRow]); 14] = [
     ),
 ];
 
-/// A replacement for line 24 of `ONE`, which adds volumes; then the devices in the concise form, and the numbers of
-/// the text lines that each device and its lines come from.
+/// A text that replaces line 24 of `ONE` and adds volumes; then the devices in the concise form, and the numbers of the
+/// text lines that describe each device and its lines.
 static OF_SEVERAL: [(&str, &str, &[(u64, u64)]); 2] = [
     (
         SECOND,
@@ -238,7 +237,7 @@ static OF_SEVERAL: [(&str, &str, &[(u64, u64)]); 2] = [
     ),
 ];
 
-/// Asserts the devices and the disks of a text.
+/// Asserts the devices and the disks that a text describes.
 fn check_tables(
     rt: &impl Abort,
     alloc: Global,
@@ -275,11 +274,11 @@ fn several_devices(rt: HostRuntime) {
     }
 }
 
-/// Line 7 of `ONE` with the id of an image, with dashes as metadata texts have it.
+/// A line to replace line 7 of `ONE`, with the id of an image; metadata texts write the id with dashes.
 const OWNED: &str =
     "device = \"/dev/sda1\" id = \"abcdef-ghij-klmn-opqr-stuv-wxyz-012345\" type = \"raid1\"";
 
-/// Line 7 of `ONE` for a physical volume that was missing; below, for some with other devices.
+/// A line to replace line 7 of `ONE`, for a physical volume that was missing; the lines below are for other devices.
 const MISSING: &str =
     "device = \"/dev/md0\" flags = [\"X\", \"MISSING\"] id = \"abcdefghijklmnopqrstuvwxyz012345\"";
 
@@ -289,8 +288,8 @@ const ON_MD: &str = "device = \"/dev/md\" id = \"abcdefghijklmnopqrstuvwxyz01234
 
 const ON_MAPPER: &str = "device = \"/dev/mapper/md0\" id = \"abcdefghijklmnopqrstuvwxyz012345\"";
 
-/// A line of `ONE` and its replacement; then the device in the concise form, or the fault, if an image with an id has
-/// the disk `sdb`.
+/// The number of a line of `ONE`, and a line to replace it; then the device in the concise form, or the fault, if an
+/// image with an id is that of the disk `sdb`.
 static OF_OWNED: [(usize, &str, Result<&str, OwnedFault>); 7] = [
     (7, OWNED, Ok("vg0-lv0,,,rw,0 204800 linear sdb 2048\n")),
     (
@@ -298,7 +297,7 @@ static OF_OWNED: [(usize, &str, Result<&str, OwnedFault>); 7] = [
         "type = \"raid1\"",
         Err(OwnedFault::Disk(0, DiskFault::Foreign)),
     ),
-    // A missing disk, which counts before an array of another name; two on such arrays, and one that isn't on any.
+    // A missing disk, whatever its array; two disks on arrays of other names; a disk that isn't on an array.
     (7, MISSING, Err(OwnedFault::Disk(0, DiskFault::Missing))),
     (7, ON_ARRAY, Err(OwnedFault::Disk(0, DiskFault::Array))),
     (7, ON_MD, Err(OwnedFault::Disk(0, DiskFault::Array))),
@@ -316,7 +315,7 @@ static OF_OWNED: [(usize, &str, Result<&str, OwnedFault>); 7] = [
     ),
 ];
 
-/// Asserts the result of a text if images have these ids.
+/// Asserts the result of reading a text if there are images with these ids.
 fn check_owned(
     rt: &impl Abort,
     alloc: Global,

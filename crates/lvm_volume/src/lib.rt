@@ -1,10 +1,11 @@
 //! LVM2 volume groups as device-mapper tables, and the device names of their logical volumes.
-//! From the tree of a group's metadata text, this crate makes the devices and disks of the group, or finds the
-//! first fault in it; and it builds and splits the names under which the device mapper knows the volumes of a
-//! group. The rules are those of lvm(8), dmsetup(8) and of metadata as vgcfgbackup(8) writes it.
+//! From the tree of a group's metadata text, this crate makes the devices and disks of the group, or finds the first
+//! fault. It also builds and splits the names under which the device mapper knows the volumes of a group. The rules are
+//! those of lvm(8), dmsetup(8) and of metadata as vgcfgbackup(8) writes it.
 //!
-//! `metadata` goes from bytes to tables. A `volume_group` is what a text says (`group`) after its fields have been
-//! checked (`fields`) and no other check has found a fault (`checks`); `tables` makes devices and disks from it.
+//! `metadata` makes tables from the bytes of a text. A `volume_group` is what a text describes (`group`) once its
+//! fields have been checked (`fields`) and no other check has found a fault (`checks`); `tables` makes devices and
+//! disks from it.
 #![tactic(auto)]
 
 mod checks;

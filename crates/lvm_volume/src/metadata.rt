@@ -1,7 +1,7 @@
 //! Reads a metadata text, from its bytes to the devices and disks of its group.
 //!
-//! This calls the steps in the order of their faults: bytes that aren't UTF-8, the language of the text, the
-//! group, the device names of its volumes. It has no rules of its own.
+//! The steps are called in the order of their faults: bytes that aren't UTF-8, the syntax of the text, the group, the
+//! device names of its volumes. This module has no rules of its own.
 
 ghost use Rattle.lvm_volume.specs.Prelude.{IfErr, IfOk, IsUtf8, Memory, NotText, Source, Answers, IsMemoryFault, fault_at, first_fault, unless, group_of, DescribesGroup, IsRefusedText, SaysOneThing, bad_byte_line, metadata_checks, tables_of};
 ghost use Rattle.std.specs.Prelude.{◌≡◌, ◌≢◌};
@@ -15,9 +15,9 @@ use std::alloc::Global;
 
 /// The devices and disks that an LVM2 metadata text describes, or the fault for which it is refused.
 ///
-/// `NotText` on the line of the first byte that isn't UTF-8; else the fault of the text as `text_fault` gives it;
-/// else that of the group as `VolumeGroup::read` and `VolumeGroup::tables` give it. `Memory` is returned only if
-/// an allocation was refused. All places are in the part `source`.
+/// The fault is `NotText` on the line of the first byte that isn't UTF-8, or else the fault of the text as `text_fault`
+/// returns it, or else that of the group as `VolumeGroup::read` and `VolumeGroup::tables` return it. `Memory` is
+/// returned only if an allocation was refused. All places are in the part `source`.
 ///
 /// Cost: near-linear in the length of the text. Source: vgcfgbackup(8).
 pub fn parse_metadata(
@@ -27,7 +27,7 @@ pub fn parse_metadata(
     ensures described { IfOk result (λ tables. DescribesGroup source.now (tables.0.items, tables.1.items)) }
     ensures refused { IfErr result (λ fault. fault.kind ≢ Memory → IsRefusedText source.now fault) }
     ensures memory { IfErr result (λ fault. fault.kind ≡ Memory → IsMemoryFault Source fault) }
-    // Every text describes exactly one pair of lists of devices and disks, or has exactly one fault.
+    // Every text describes exactly one list of devices and one of disks, or has exactly one fault.
     ensures one { SaysOneThing source.now }
 {
     let text = utf8_text(source)?;
@@ -37,7 +37,7 @@ pub fn parse_metadata(
     }
 }
 
-/// The bytes as a text, or a fault on the line of the first byte that isn't UTF-8.
+/// The bytes as a text, or the fault on the line of the first byte that isn't UTF-8.
 pub(crate) fn utf8_text(source: &[u8]) -> Result<&str, LoadFault>
     ensures text { IfOk result (λ text. (text.now ≡ source.now) × IsUtf8 source.now) }
     ensures fault { IfErr result (λ fault. ¬ (IsUtf8 source.now)

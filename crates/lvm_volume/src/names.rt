@@ -1,6 +1,6 @@
 //! Device names of logical volumes: a group, a volume and perhaps a layer, with each hyphen inside a part doubled,
-//! joined by single hyphens. So a hyphen that ends a part differs from those inside it, and a name splits in one way
-//! only, as a clause of `split_name` says. To change which parts are valid, change `specs/Names` first.
+//! joined by single hyphens. A hyphen that ends a part thus differs from the hyphens inside it, and a name can be split
+//! in only one way, as a clause of `split_name` says. To change which parts are valid, change `specs/Names` first.
 
 ghost use Rattle.lvm_volume.specs.Prelude.{ℕ, List, IfOk, IfSome, IfNone, OnOk, length, option_map, IsTrue, list_all, string_bytes, NameParts, name_parts, is_letter, begins_with, part_fault, layer_fault, or_later, doubled, undoubled, fault_of, joined, built, Returns, with_hyphen, Builds, IsSplit, IsSpaced, parts_view, spaced, undoubled_parts, slice_length, first_slice, later_slices, slices_of};
 ghost use Rattle.std.specs.Prelude.{◌≡◌, ◌++◌, ◌<◌, ◌^◌};
@@ -9,7 +9,7 @@ use crate::fault::NameFault;
 use dm_table::{CheckFault, Name};
 use std::alloc::{AllocError, Global};
 
-/// The parts of a name, as slices of it, in which hyphens are still doubled.
+/// The parts of a name as slices of the name, with hyphens still doubled.
 #[derive(Clone, Copy, Debug, PartialEq, Eq)]
 pub struct Parts<'a> {
     pub vg: &'a str,
@@ -17,7 +17,7 @@ pub struct Parts<'a> {
     pub layer: Option<&'a str>,
 }
 
-/// Whether a byte may occur in a part of a name.
+/// Whether a byte is allowed in a part of a name.
 fn is_letter(byte: u8) -> bool
     ensures { result ≡ is_letter byte }
 {
@@ -31,7 +31,7 @@ fn begins_with(part: &[u8], byte: u8) -> bool
     !part.is_empty() && part[0] == byte
 }
 
-/// Whether all bytes may occur in a part of a name.
+/// Whether all bytes are allowed in a part of a name.
 fn are_letters(part: &[u8]) -> bool
     ensures { result ≡ list_all is_letter part.now }
 {
@@ -102,7 +102,7 @@ fn layer_length(layer: Option<&str>) -> u128
     }
 }
 
-/// Why no name can be built from these parts, if so. Allocates nothing.
+/// Why no name can be built from these parts; `None` if one can. Allocates nothing.
 pub(crate) fn name_fault(vg: &str, lv: &str, layer: Option<&str>) -> Option<NameFault>
     ensures { result ≡ fault_of (name_parts vg.now lv.now layer.entry) }
 {
@@ -130,7 +130,7 @@ fn push_doubled(text: &mut String, part: &str) -> Result<(), AllocError>
     Ok(())
 }
 
-/// The parts with their hyphens doubled, joined by single hyphens.
+/// The name that consists of the parts with each hyphen doubled, joined by single hyphens.
 fn joined(alloc: Global, vg: &str, lv: &str, layer: Option<&str>) -> Result<String, AllocError>
     requires vg { IsTrue (list_all is_letter vg.now) }
     requires lv { IsTrue (list_all is_letter lv.now) }
@@ -150,10 +150,10 @@ fn joined(alloc: Global, vg: &str, lv: &str, layer: Option<&str>) -> Result<Stri
 
 /// Builds the device-mapper name of a logical volume, or of a layer of it.
 ///
-/// The parts are checked in order: each may not be empty (`Empty`), have a byte that no part may have (`Letter`,
-/// also for a layer that begins with an underscore) or begin with a hyphen (`HyphenFirst`). Then the whole name may
-/// not have more than 127 bytes (`Long`). `Memory` is returned only if an allocation was refused.
-/// Source: lvm(8), "Valid names"; which bytes are allowed is this project's own selection.
+/// The parts are checked in order: a part may not be empty (`Empty`), contain a byte that isn't allowed (`Letter`, also
+/// if a layer begins with an underscore) or begin with a hyphen (`HyphenFirst`). Then the whole name may not have more
+/// than 127 bytes (`Long`). `Memory` is returned only if an allocation was refused. Source: lvm(8), "Valid names";
+/// which bytes are allowed is this project's own selection.
 pub fn build_name(alloc: Global, vg: &str, lv: &str, layer: Option<&str>) -> Result<Name, NameFault>
     ensures { Returns result (built (name_parts vg.now lv.now layer.entry)) }
 {
@@ -163,7 +163,7 @@ pub fn build_name(alloc: Global, vg: &str, lv: &str, layer: Option<&str>) -> Res
     let Ok(text) = joined(alloc, vg, lv, layer) else {
         return Err(NameFault::Memory);
     };
-    // All of these bytes may occur in a device name, so only the length can be invalid.
+    // All of these bytes may occur in a device name, so only the length can be wrong.
     match Name::new(alloc, text.as_str()) {
         Ok(name) => Ok(name),
         Err(CheckFault::Form) => Err(NameFault::Long),
@@ -188,7 +188,7 @@ fn slice_length(bytes: &[u8]) -> usize
     at
 }
 
-/// The part of a name before its first single hyphen, and the text after that hyphen, if there is one.
+/// The part of a name before its first single hyphen, and the text after this hyphen, if there is one.
 fn cut(name: &str) -> (&str, Option<&str>)
     ensures first { result.0.now ≡ first_slice name.now }
     ensures later { option_map (λ later. later.now) result.1 ≡ later_slices name.now }
@@ -197,7 +197,7 @@ fn cut(name: &str) -> (&str, Option<&str>)
     (first, rest.strip_prefix('-'))
 }
 
-/// The two or three slices of a name between its single hyphens, valid or not; `None` for any other number.
+/// The slices of a name between its single hyphens, valid or not; `None` unless there are two or three.
 fn slices_of(name: &str) -> Option<Parts<'_>>
     ensures { option_map parts_view result ≡ slices_of name.now }
 {
@@ -221,14 +221,14 @@ fn slices_of(name: &str) -> Option<Parts<'_>>
     })
 }
 
-/// Splits a name into its parts, as slices in which hyphens are still doubled; `None` exactly if no parts build
-/// this name. `undouble` turns a slice into its part. Allocates nothing.
+/// Splits a name into its parts, as slices with hyphens still doubled; `None` exactly if no parts build this name.
+/// `undouble` turns such a slice into the part. Allocates nothing.
 ///
 /// Source: dmsetup(8), splitname.
 pub fn split_name(name: &str) -> Option<Parts<'_>>
     ensures some { IfSome result (λ slices. IsSplit name.now (parts_view slices)) }
     ensures none { IfNone result ((p : NameParts) → ¬ (Builds p name.now)) }
-    // A name splits in one way only.
+    // A name can be split in only one way.
     ensures one { (p q : NameParts) → Builds p name.now → Builds q name.now → p ≡ q }
 {
     let parts = slices_of(name)?;
@@ -239,8 +239,8 @@ pub fn split_name(name: &str) -> Option<Parts<'_>>
     }
 }
 
-/// A text with each pair of hyphens, taken from the left, replaced by one: turns a slice of a name into its part.
-/// Fails only if memory runs out.
+/// A text with each pair of hyphens, taken from the left, replaced by one hyphen; turns a slice of a name into the
+/// part. Fails only if memory runs out.
 pub fn undouble(alloc: Global, text: &str) -> Result<String, AllocError>
     ensures text { IfOk result (λ s. string_bytes s ≡ undoubled text.now) }
     ensures part { (part : List ℕ) → text.now ≡ doubled part → IfOk result (λ s. string_bytes s ≡ part) }
@@ -256,7 +256,7 @@ pub fn undouble(alloc: Global, text: &str) -> Result<String, AllocError>
     Ok(whole)
 }
 
-/// The parts of a name from its slices, with single spaces between them.
+/// The parts of a name, given its slices, separated by single spaces.
 fn spaced(alloc: Global, slices: Parts<'_>) -> Result<String, AllocError>
     ensures { IfOk result (λ text. string_bytes text ≡ spaced (undoubled_parts (parts_view slices.entry))) }
 {
@@ -270,8 +270,8 @@ fn spaced(alloc: Global, slices: Parts<'_>) -> Result<String, AllocError>
     Ok(text)
 }
 
-/// The parts of a name with single spaces between them; `None` exactly if no parts build this name.
-/// Fails only if memory runs out.
+/// The parts of a name, separated by single spaces; `None` exactly if no parts build this name. Fails only if memory
+/// runs out.
 ///
 /// Source: dmsetup(8), splitname.
 pub fn spaced_parts(alloc: Global, name: &str) -> Result<Option<String>, AllocError>

@@ -1,8 +1,8 @@
-//! Reads a metadata text when images with some of its physical volumes are at hand: these are named after the disks in
-//! the images.
+//! Reads a metadata text if there are images of some of the group's physical volumes; these physical volumes get the
+//! names of the disks in the images.
 //!
-//! Whether an image belongs to another group, or its disk can't be used, is decided once the text has been read, before
-//! the group is checked: otherwise a fault of the group would hide it.
+//! A disk that belongs to another group, or can't be used, is refused once the text has been read and before the group
+//! is checked; otherwise a fault of the group would hide the reason.
 
 ghost use Rattle.lvm_volume.specs.Prelude.{owners_view, Gives, GivesOneThing, OwnedAnswers, owned_tables};
 ghost use Rattle.std.specs.Prelude.{◌≡◌};
@@ -16,21 +16,21 @@ use dm_table::{DeviceSpec, Disk, LoadFault};
 use lvm_text::{Section, parse};
 use std::alloc::Global;
 
-/// Why a metadata text gives no devices and disks when images have some of its physical volumes.
+/// Why a metadata text describes no devices and disks if there are images of some of its physical volumes.
 #[derive(Clone, Copy, Debug, PartialEq, Eq, Drop)]
 pub enum OwnedFault {
-    /// The disk with this number, counted from 0, can't be used for the physical volume with its id.
+    /// The disk with this number, counted from 0, can't be used for the physical volume whose id it carries.
     Disk(usize, DiskFault),
-    /// The text is refused for this fault, as it would be without images.
+    /// The text is refused for this fault, just as if there were no images.
     Load(LoadFault),
 }
 
-/// The devices and disks that an LVM2 metadata text describes when images have some of its physical volumes: the disk
-/// of each of these gets the name of the disk in its image. The others get the name that `parse_metadata` gives them;
-/// its checks, too, use only the names that it gives.
+/// The devices and disks that an LVM2 metadata text describes if there are images of some of its physical volumes. The
+/// disk of such a physical volume gets the name of the disk in the image; other disks get the names that
+/// `parse_metadata` gives them, and the checks use only the names that `parse_metadata` gives.
 ///
-/// `Disk` is returned for a text that can be read, before its group is checked, at the first disk that can't be used.
-/// The other faults are those of `parse_metadata`.
+/// The fault is `Disk` for the first disk that can't be used, after the text has been read and before its group is
+/// checked. All other faults are those of `parse_metadata`.
 ///
 /// Cost: that of `parse_metadata`, and one comparison for each pair of an image's id and an id in the text.
 pub fn parse_owned(
@@ -52,7 +52,7 @@ pub fn parse_owned(
     }
 }
 
-/// The devices and disks of the group in a tree, or the fault.
+/// The devices and disks of the group in a tree, or the fault for which it is refused.
 fn owned_tables(
     alloc: Global,
     top: &Section<'_>,

@@ -1,6 +1,5 @@
-//! Expected device names. Each public call is made here with enough memory, except `spaced_parts`: the tests of
-//! `dmremap` make it, through the command `splitname`. More names are tested on the built program
-//! (`tests/outside`).
+//! Expected device names. The tests make each public call with enough memory, except `spaced_parts`, which the tests of
+//! `dmremap` call through the command `splitname`. More names are tested on the built program (`tests/outside`).
 
 use crate::{NameFault, build_name, split_name, undouble};
 
@@ -40,7 +39,7 @@ fn built(rt: HostRuntime) {
     }
 }
 
-/// A slice of a name, and its part.
+/// A slice of a name, and the part that it stands for.
 static UNDOUBLED: [(&str, &str); 5] = [
     ("", ""),
     ("a--", "a-"),

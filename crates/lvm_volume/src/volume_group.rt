@@ -1,8 +1,8 @@
-//! Volume groups: what the metadata of a group says, after all checks have passed.
+//! Volume groups: what the metadata of a group describes, once all checks have passed.
 //!
-//! The type `VolumeGroup` keeps what making tables needs: numbers fit 64 bits when counted in sectors, stripes are on
-//! physical volumes that exist, and the origins of snapshots have the role of origins. A new check is added here
-//! and in `group_checks` of `specs/tables/Tables.antt`.
+//! The type `VolumeGroup` guarantees what is needed to make tables: numbers fit 64 bits when counted in sectors,
+//! stripes are on physical volumes that exist, and the origins of snapshots have the role of origins. A new check is
+//! added here and in `group_checks` of `specs/tables/Tables.antt`.
 
 ghost use Rattle.lvm_volume.specs.Prelude.{ℕ, List, Source, Answers, first_fault, unless, IsChecked, group_of, group_with, checks_of_parts, group_checks};
 
@@ -49,20 +49,20 @@ pub(crate) struct Parts {
 impl VolumeGroup {
     /// Reads the volume group that a metadata text describes, from the top of its tree.
     ///
-    /// The checks run over the whole text one after the other, and the first that finds a fault reports its first one,
-    /// by the order of the text, or of the segments' numbers for all kinds but `Unknown` and `Snapshot`: `Field`
-    /// for a field that is missing or invalid, `Limit` for an integer above 2^50, for numbers of extents also in
-    /// sectors, `Name` for a physical volume whose disk gets no name, `Unknown` for a stripe on an unknown physical
-    /// volume and a snapshot with an unknown origin or store, `Extents` for physical volumes longer than their
-    /// device and for segments that are misplaced or use an extent twice, `Snapshot` for a snapshot beside other
-    /// segments in its volume, one whose origin or store is itself the record of a snapshot, one whose store is an
-    /// origin or another snapshot's store, and one that hasn't as many extents as its origin.
-    /// `Memory` is returned only if an allocation was refused.
+    /// The checks run over the whole text one after the other. The first check that finds a fault reports its first
+    /// one, in the order of the text; all kinds but `Unknown` and `Snapshot` take a volume's segments by their numbers:
+    /// `Field` for a field that is missing or invalid; `Limit` for an integer above 2^50, or a number of extents above
+    /// it in sectors; `Name` for a physical volume whose disk gets no name; `Unknown` for a stripe on an unknown
+    /// physical volume, or a snapshot with an unknown origin or store; `Extents` for a physical volume longer than its
+    /// device, or a segment that is misplaced or uses an extent twice; `Snapshot` for a snapshot beside other segments
+    /// in its volume, one whose origin or store is itself a record, one whose store is an origin or another snapshot's
+    /// store, and one that doesn't have as many extents as its origin. `Memory` is returned only if an allocation was
+    /// refused.
     ///
     /// Cost: near-linear in the text. Source: vgcfgbackup(8), lvm.conf(5); the limits are this project's own.
     pub fn read(alloc: Global, top: &Section<'_>) -> Result<VolumeGroup, LoadFault>
-        // Returns the group of the text exactly if no check finds a fault, else the first fault, unless memory
-        // runs out.
+        // Returns the group of the text exactly if no check finds a fault, and else the first fault, unless memory runs
+        // out.
         ensures { Answers Source (λ group. group) result
             (unless (first_fault (group_checks top.now)) (group_of top.now)) }
     {

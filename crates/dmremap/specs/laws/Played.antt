@@ -1,4 +1,4 @@
--- Laws of a player of requests as a handler: what it did with some requests and then with later ones is what it did with all of them.
+-- Laws of a player of requests as a handler: playing some requests and then later ones does the same as playing all of them.
 use Rattle.dmremap.specs.Prelude.{ℕ, List, [], map, sym, ap, subst, ◌∙◌, append_assoc, append-nil, map-append, since, since_more, Description, since-same, State, NumberedRequest, Asked, Exit, WriteFault, AreAnswered, HasPlayed, HasStopped, IsCutReplay, StopsAt, asked_of}
 use Rattle.dmremap.specs.declared.exit.Exit.TheVariants as exits
 use Rattle.std.specs.Prelude.{◌≡◌, ◌∷◌, ◌++◌}
@@ -6,7 +6,7 @@ use Rattle.std.specs.Prelude.{◌≡◌, ◌∷◌, ◌++◌}
 pub played_none : (stack : Description) (start : State) (asked : List Asked) (w : List ℕ) → HasPlayed stack start asked asked [] w w
 played_none stack start asked w = record { asked = sym (append-nil asked); told = sym (since-same w) }
 
--- the text for some requests and the text for later ones, in a row, are the text for all of them
+-- the text for some requests, followed by the text for later requests, is the text for all of them
 both : (stack : Description) (start : State) (old : List Asked) (us vs : List NumberedRequest) (s t : List ℕ) → AreAnswered stack start old us s → AreAnswered stack start (old ++ map (asked_of stack) us) vs t → AreAnswered stack start old (us ++ vs) (s ++ t)
 both stack start old [] vs s t first second =
     subst (λ (text : List ℕ). AreAnswered stack start old vs (text ++ t)) first (subst (λ (all : List Asked). AreAnswered stack start all vs t) (append-nil old) second)
@@ -19,7 +19,7 @@ both stack start old (u ∷ us) vs s t first second =
       sym (append_assoc first.0 first.1 t) ∙ ap (λ (text : List ℕ). text ++ t) first.4,
     )
 
--- the text of requests that were played and the text for later ones, in a row, are the text for all of them
+-- the text that a player wrote for some requests, followed by the text for later requests, is the text for all of them
 told_more : (stack : Description) (start : State) (a b : List Asked) (us vs : List NumberedRequest) (w0 w1 : List ℕ) (text : List ℕ) → HasPlayed stack start a b us w0 w1 → AreAnswered stack start b vs text → AreAnswered stack start a (us ++ vs) (since w0 w1 ++ text)
 told_more stack start a b us vs w0 w1 text first second =
     both stack start a us vs (since w0 w1) text first.told (subst (λ (all : List Asked). AreAnswered stack start all vs text) first.asked second)
@@ -34,7 +34,7 @@ played_more stack start a b c us vs w0 w1 w2 more again first second =
       told = subst (AreAnswered stack start a (us ++ vs)) (sym (since_more w0 w1 w2 more again)) (told_more stack start a b us vs w0 w1 (since w1 w2) first second.told);
     }
 
--- a player that stopped at one of the later requests stopped at that one of all requests
+-- a player that first plays some requests, and then stops at a later one, stops at that one of all requests
 stops_more : (IsCause : NumberedRequest → Type 0) (stack : Description) (start : State) (a b : List Asked) (us vs : List NumberedRequest) (w0 w1 w2 : List ℕ) → w1 ≡ w0 ++ since w0 w1 → w2 ≡ w1 ++ since w1 w2
     → HasPlayed stack start a b us w0 w1 → StopsAt IsCause stack start b vs (since w1 w2) → StopsAt IsCause stack start a (us ++ vs) (since w0 w2)
 stops_more IsCause stack start a b us vs w0 w1 w2 more again first second = record {

@@ -1,4 +1,4 @@
-//! Runs after earlier requests, over inputs in memory with short reads or faults, which no file on a disk shows.
+//! Runs after earlier requests, over inputs in memory with short reads or faults, which files on a disk don't have.
 //!
 //! Everything else is tested on the built program (`tests/outside`).
 
@@ -15,12 +15,12 @@ const SOURCE: &[u8] = b"s: 0 32 snapshot base cow P 8\n";
 
 const DISKS: &[u8] = b"base 32\ncow 32\n";
 
-/// Earlier requests, and the expected result of a read in the chunk that the first of them writes.
+/// Earlier requests, and the expected result of a read in the chunk that the first of these requests writes.
 #[derive(Clone, Copy)]
 struct Case<'a> {
     name: &'a str,
     earlier: &'a [u8],
-    /// After how many bytes reading the earlier requests fails, if it fails.
+    /// The number of bytes after which reading the earlier requests fails, or `None` if it doesn't fail.
     fails_after: Option<usize>,
     output: &'a [u8],
     message: &'a [u8],
@@ -73,7 +73,7 @@ static CASES: [Case<'static>; 6] = [
     },
 ];
 
-/// An input of these bytes that hands out at most `step` a read, and fails after a number of bytes if one is given.
+/// An input of these bytes that delivers at most `step` of them a read, and fails after `fails_after` bytes, if given.
 fn input(bytes: &[u8], step: usize, fails_after: Option<usize>) -> ShortIn<'_>
     requires { 0 < step }
 {

@@ -1,9 +1,9 @@
-//! All of `map` over inputs and outputs in memory with short reads, short writes and faults: the exact output,
-//! message and status.
+//! All of `map` over inputs and outputs in memory with short reads, short writes and faults: the exact output, message
+//! and status.
 //!
-//! Which bytes follow from which texts is tested on the built program (`tests/outside`). Here are the tests that need
-//! a stream of our own, or calls that only a library has. Expected results are derived from the rules, never copied
-//! from a run. Tables are `static` because array rows inside a function are proved one by one.
+//! Tests of the built program (`tests/outside`) check which output follows from which texts. Here are the tests that
+//! need a stream of our own, or that call functions of the library. Expected results are derived from the rules, never
+//! copied from a run. Tables are `static` because the rows of an array inside a function are proved one by one.
 
 ghost use Rattle.std.specs.Prelude.{◌<◌};
 
@@ -23,7 +23,7 @@ mod gathered;
 mod part_files;
 mod parts;
 
-/// More bytes than the output of any case has. A stream moves this many per call unless a case says otherwise.
+/// More bytes than any case writes. A stream moves up to this many bytes a call, unless a case sets another step.
 const PLENTY: usize = 4096;
 
 /// The inputs of a run, and its expected results.
@@ -33,7 +33,7 @@ struct Case<'a> {
     source: &'a str,
     disks: &'a str,
     requests: &'a [u8],
-    /// Whether the run is asked for status lines.
+    /// Whether status lines are asked for.
     flag: bool,
     output: &'a [u8],
     message: &'a [u8],
@@ -41,8 +41,8 @@ struct Case<'a> {
     streams: Streams,
 }
 
-/// How the streams of a run behave: each moves at most `step` bytes a call, and one that has a number here fails
-/// after that many bytes.
+/// How the streams of a run behave: each moves at most `step` bytes a call, and a stream with a number here fails after
+/// that many bytes.
 #[derive(Clone, Copy)]
 struct Streams {
     step: usize,
@@ -78,7 +78,7 @@ const VOLUME: Case<'static> = Case {
     streams: STEADY,
 };
 
-/// A group of two volumes; the second has two stripes and is read-only.
+/// A volume group with two logical volumes; the second has two stripes and is read-only.
 const GROUP: Case<'static> = Case {
     name: "a group",
     source: "contents = \"Text Format Volume Group\"\nversion = 1\nvg0 {\n  extent_size = 8192\n  physical_volumes {\n    pv0 {\n      device = \"/dev/sda1\"\n      dev_size = 1050624\n      pe_start = 2048\n      pe_count = 128\n    }\n  }\n  logical_volumes {\n    lv0 {\n      status = [\"READ\", \"WRITE\", \"VISIBLE\"]\n      segment_count = 1\n      segment1 {\n        start_extent = 0\n        extent_count = 25\n        type = \"striped\"\n        stripe_count = 1\n        stripes = [\"pv0\", 0]\n      }\n    }\n    lv-1 {\n      status = [\"READ\"]\n      segment_count = 1\n      segment1 {\n        start_extent = 0\n        extent_count = 4\n        type = \"striped\"\n        stripe_count = 2\n        stripe_size = 128\n        stripes = [\"pv0\", 25, \"pv0\", 27]\n      }\n    }\n  }\n}\n",
@@ -88,7 +88,7 @@ const GROUP: Case<'static> = Case {
     ..VOLUME
 };
 
-/// An input of these bytes that hands out at most `step` a read, and fails after a number of bytes if one is given.
+/// An input of these bytes that delivers at most `step` of them a read, and fails after `fails_after` bytes, if given.
 fn input(bytes: &[u8], step: usize, fails_after: Option<usize>) -> ShortIn<'_>
     requires { 0 < step }
 {
@@ -98,7 +98,7 @@ fn input(bytes: &[u8], step: usize, fails_after: Option<usize>) -> ShortIn<'_>
     }
 }
 
-/// An output that fails after a number of bytes, if one is given, and whose flushes may fail.
+/// An output that fails after a number of bytes, if a number is given, and whose flushes may fail.
 fn output(
     rt: &impl Abort,
     alloc: Global,
@@ -117,12 +117,12 @@ fn output(
     made.expect(rt, "an output")
 }
 
-/// A message of the program, from the words after `dmremap: `.
+/// A message of the program, given the words after `dmremap: `.
 fn message_of(rt: &impl Abort, alloc: Global, words: &str) -> String {
     format!(in alloc; "dmremap: {words}\n").expect(rt, "a message")
 }
 
-/// Runs a case, and asserts its results.
+/// Runs a case, and asserts its expected results.
 fn check(rt: &impl Abort, alloc: Global, case: &Case<'_>) {
     let streams = case.streams;
     let step = streams.step.max(1);
@@ -144,7 +144,7 @@ fn check(rt: &impl Abort, alloc: Global, case: &Case<'_>) {
     check_answer(rt, case, status, written.as_slice(), messages.as_slice());
 }
 
-/// Runs a case once for each step: with streams that move at most that many bytes a call.
+/// Runs a case once for each of the steps, with streams that move at most that many bytes a call.
 fn check_at(rt: &impl Abort, alloc: Global, case: &Case<'_>, steps: &[usize]) {
     for &step in steps {
         let streams = Streams {

@@ -1,6 +1,6 @@
 //! The commands that print, over inputs and outputs in memory with short writes and faults.
 //!
-//! What is printed for which texts is tested on the built program (`tests/outside`). Here each command runs with
+//! Tests of the built program (`tests/outside`) check what is printed for which texts. Here each command runs with
 //! ample memory, and its output and its messages fail after each of their bytes in turn.
 
 ghost use Rattle.dmremap.specs.Prelude.{true, job_words, is_other};
@@ -51,7 +51,7 @@ enum Asked {
     SplitName(&'static str),
 }
 
-/// A job, its source and its disk list, and what it prints at status 0 or reports at another status.
+/// A job, its source and its disk list; then the output if the status is 0, or else the message; and the status.
 static ROWS: [(Asked, &str, &str, &str, u8); 13] = [
     (
         Asked::Print(TableForm::Table, Format::Tables(TableForm::Table)),
@@ -122,8 +122,8 @@ static ROWS: [(Asked, &str, &str, &str, u8); 13] = [
     (Asked::SplitName("a"), "", "", "dmremap: name: split\n", 1),
 ];
 
-/// How the streams of a run behave: they take at most `step` bytes a call, as many in all as these numbers say, and
-/// the output's flushes may fail.
+/// How the streams of a run behave: they accept at most `step` bytes a call, fail after `output` and `messages` bytes,
+/// and the flushes of the output may fail.
 #[derive(Clone, Copy)]
 struct Streams {
     step: usize,
@@ -140,7 +140,7 @@ const STEADY: Streams = Streams {
     flush_fails: false,
 };
 
-/// A source in this format. Its paths are empty because no file is opened here.
+/// A source in this format. The paths are empty because no file is opened here.
 fn source_in(format: Format) -> Source<'static> {
     Source::Files {
         format,
@@ -149,7 +149,7 @@ fn source_in(format: Format) -> Source<'static> {
     }
 }
 
-/// The parts of a load, without a list of paths.
+/// The parts of a load that has no list of paths.
 fn parts_of<'a>(
     format: Format,
     source: &'a str,
@@ -172,7 +172,7 @@ fn format_of(asked: Asked) -> Format {
     }
 }
 
-/// The job that a row asks for. It has no list of paths, and no file is opened for it.
+/// The job that a row asks for, without a list of paths. No file is opened for the job.
 fn job_of(asked: Asked) -> Job<'static>
     ensures { is_other (job_words result) ≡ true }
 {
@@ -221,7 +221,7 @@ fn check(
     assert_eq!(rt; got, status, "the status of {source}");
 }
 
-/// Asserts that a text is printed, and what happens if its output fails after each byte or at its flush.
+/// Asserts that a text is printed, and the results if the output fails after each of its bytes or at the flush.
 fn check_printed(rt: &impl Abort, alloc: Global, asked: Asked, texts: (&str, &str), text: &[u8]) {
     check(rt, alloc, asked, texts, STEADY, (text, b"", 0));
     for output in 0..text.len() {
@@ -242,7 +242,7 @@ fn check_printed(rt: &impl Abort, alloc: Global, asked: Asked, texts: (&str, &st
     check(rt, alloc, asked, texts, streams, (text, WRITE_MESSAGE, 5));
 }
 
-/// Asserts that a message is reported, also if its stream fails after each byte.
+/// Asserts that a message is reported, even if the stream of messages fails after each of its bytes.
 fn check_told(
     rt: &impl Abort,
     alloc: Global,

@@ -1,12 +1,12 @@
-//! The words that are accepted, and the text and exit status of faults that no line of words shows.
+//! Tests which words are accepted, and the text and exit status of faults that no row of words can show.
 //!
-//! A row has its words as one line, without the program's name in front. What is reported for words that ask for no
+//! The words of a row are written as one line, without the program's name. What is reported for words that ask for no
 //! job is tested on the built program (`tests/outside`).
 
 use super::*;
 use std::process::Abort;
 
-/// The words of a line, after the program's name.
+/// The words of a line, preceded by the program's name.
 fn words_of<'a>(rt: &impl Abort, alloc: Global, line: &'a str) -> Vec<&'a str> {
     let mut words = Vec::new(alloc);
     words.push("dmremap").expect(rt, "the name");
@@ -16,7 +16,7 @@ fn words_of<'a>(rt: &impl Abort, alloc: Global, line: &'a str) -> Vec<&'a str> {
     words
 }
 
-/// Words, and the job that they ask for, as `shown` writes it.
+/// A line of words, and the job that the words ask for, in the form that `shown` returns.
 static JOBS: [(&str, &str); 29] = [
     ("map table a.table a.disks", "map a.table a.disks"),
     ("map table -- a.table a.disks", "map a.table a.disks"),
@@ -76,7 +76,7 @@ static JOBS: [(&str, &str); 29] = [
     ),
 ];
 
-/// How `shown` writes a form: not at all for table text, which most rows have.
+/// What `shown` writes for a form: nothing for table text, which most rows have.
 fn shown_form(form: TableForm) -> &'static str {
     match form {
         TableForm::Table => "",
@@ -84,7 +84,7 @@ fn shown_form(form: TableForm) -> &'static str {
     }
 }
 
-/// How `shown` writes a command with its source and the file of earlier requests.
+/// What `shown` writes for a command, its source and the file of earlier requests.
 fn shown_source(
     rt: &impl Abort,
     alloc: Global,
@@ -114,7 +114,7 @@ fn shown_source(
     text.expect(rt, "a text")
 }
 
-/// A job written as a text.
+/// A job as a text, to compare it with an expected one.
 fn shown(rt: &impl Abort, alloc: Global, job: Job<'_>) -> String {
     let (command, source, earlier) = match job {
         Job::Map {

@@ -1,4 +1,4 @@
--- What a group's metadata says: the group, its physical volumes, and its logical volumes with their segments.
+-- What a group's metadata describes: the group, its physical volumes, and its logical volumes with their segments.
 use Rattle.lvm_volume.specs.Base.{ℕ, Bool, false, not, List, [], nat_lt, bytes_eq, codes, count_by, map, list_any, position_or_len, code, is_disk_name, Tree, Scalar, Int, Text, Nothing, sections_of, Stripe, SegmentType, Zero, Error, Striped, Snapshot, Segment, Physical}
 use Rattle.lvm_volume.specs.declared.group.positions.GroupPositions.{GroupPositions}
 use Rattle.lvm_volume.specs.declared.group.volume.Volume.{Volume}
@@ -12,7 +12,7 @@ pub record Group : Type 0 where
   pub physicals : List Physical
   pub volumes : List Volume
 
--- a volume group, from its four parts
+-- a volume group, given its four parts
 abbrev pub group_with : (name : List ℕ) → (extent_size : ℕ) → List Physical → List Volume → Group
 group_with name extent_size physicals volumes = record { name = name; extent_size = extent_size; physicals = physicals; volumes = volumes }
 
@@ -22,7 +22,7 @@ group_with name extent_size physicals volumes = record { name = name; extent_siz
 abbrev pub Keyed : Type 0
 Keyed = List ℕ × Tree
 
--- the path of a physical volume's device, as its section says
+-- the path of a physical volume's device, according to its section
 abbrev pub device_of : Keyed → List ℕ
 device_of physical = text_at (codes "device") physical.1
 
@@ -31,11 +31,11 @@ abbrev pub begins_with_slash : List ℕ → Bool
 begins_with_slash [] = false
 begins_with_slash (b ∷ bs) = b == code "/"
 
--- two or more physical volumes have this device
+-- more than one physical volume has this device
 abbrev pub is_shared : List (List ℕ) → List ℕ → Bool
 is_shared devices device = nat_lt 1 (count_by (λ other. bytes_eq device other) devices)
 
--- the name for a disk: the device, if it is an absolute path, valid as a disk name and not shared, else the key
+-- the name for a disk: the device if it is an absolute path, valid as a disk name and not shared, or else the key
 unfoldable pub chosen : Bool → (key device : List ℕ) → List ℕ
 chosen shared key device = if begins_with_slash device && (not shared && is_disk_name device) then device else key
 
@@ -63,11 +63,11 @@ physicals_in sections = map (physical_of (map device_of sections)) sections
 abbrev pub keys_in : List Keyed → List (List ℕ)
 keys_in = map (λ section. section.0)
 
--- the position of a key in a list, or the list's length if it isn't there
+-- the position of a key in a list, or the length of the list if the key isn't in the list
 abbrev pub position_of : List (List ℕ) → List ℕ → ℕ
 position_of keys key = position_or_len (bytes_eq key) keys
 
--- the stripes that pairs in a list describe: a physical volume's key, and the stripe's first extent there
+-- the stripes that a list of pairs describes: in each pair, a physical volume's key and the first extent of the stripe on that volume
 abbrev pub stripes_in : List (List ℕ) → List Scalar → List Stripe
 stripes_in keys (Text key ∷ Int extent ∷ items) = record { physical = position_of keys key; extent = extent } ∷ stripes_in keys items
 stripes_in keys _ = []
@@ -81,7 +81,7 @@ abbrev pub snapshot_in : List (List ℕ) → Tree → SegmentType
 snapshot_in keys segment =
     Snapshot (number_at (codes "chunk_size") segment) (position_of keys (text_at (codes "origin") segment)) (position_of keys (text_at (codes "cow_store") segment))
 
--- the type of a segment, with the stripes or volumes that it refers to
+-- the type of a segment, with the stripes or logical volumes that the segment refers to
 abbrev pub target_of : GroupPositions → Tree → SegmentType
 target_of keys segment =
     if is_striped segment then striped_in keys.physicals segment
@@ -106,7 +106,7 @@ is_text_of word (Int n) = false
 abbrev pub lists : (key word : List ℕ) → Tree → Bool
 lists key word section = list_any (is_text_of word) (items_at key section)
 
--- the volume may be written; lvm2 can write the right as WRITE_LOCKED, in the status or in the flags
+-- the volume may be written; lvm2 can write the permission as WRITE_LOCKED, among the status or the flags
 abbrev pub is_writable : Tree → Bool
 is_writable volume =
     lists (codes "status") (codes "WRITE") volume

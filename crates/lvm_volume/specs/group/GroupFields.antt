@@ -1,4 +1,4 @@
--- The fields of a group as the code reads them, before its disks have names.
+-- The fields of a group as the code reads them, before the disks have names.
 use Rattle.lvm_volume.specs.Base.{List, codes, map}
 use Rattle.lvm_volume.specs.declared.group.group_fields.GroupFields as code
 use Rattle.lvm_volume.specs.declared.group.volume.Volume.{Volume}
@@ -7,11 +7,11 @@ use Rattle.lvm_volume.specs.group.Group.{Keyed, keys_in, volume_of, volumes_in}
 use Rattle.lvm_volume.specs.group.PhysicalFields.{fields_of, fields_view}
 use Rattle.std.specs.Prelude.{◌≡◌}
 
--- the logical volumes that sections describe, in a group with these physical volumes
+-- the logical volumes that sections describe, in a group with the given physical volumes
 abbrev pub volumes_said : (physicals volumes : List Keyed) → List Volume
 volumes_said physicals volumes = map (volume_of (record { physicals = keys_in physicals; volumes = keys_in volumes })) volumes
 
--- the fields are what the group's section says
+-- the fields are those that the group's section describes
 pub record IsSaid (group : Keyed) (fields : code.GroupFields) : Type 0 where
   pub name : fields.name.now ≡ group.0
   pub extent_size : fields.extent_size ≡ number_at (codes "extent_size") group.1

@@ -13,7 +13,7 @@ pub record Fields : Type 0 where
   pub count : ℕ
   pub line : ℕ
 
--- the fields that a section with its key describes
+-- the fields that a physical volume's section describes
 abbrev pub fields_of : Keyed → Fields
 fields_of physical = record {
   key = physical.0;
@@ -28,7 +28,7 @@ fields_of physical = record {
 abbrev pub fields_view : code.PhysicalFields → Fields
 fields_view fields = record { key = fields.key.now; device = fields.device.now; size = fields.size; start = fields.start; count = fields.count; line = fields.line }
 
--- the physical volume with a name for its disk; `devices` are the devices of all physical volumes
+-- the physical volume with these fields and a name for its disk; `devices` are the devices of all physical volumes
 abbrev pub with_disk_name : List (List ℕ) → Fields → Physical
 with_disk_name devices fields = record { disk = chosen (is_shared devices fields.device) fields.key fields.device; size = fields.size; start = fields.start; count = fields.count; line = fields.line }
 

@@ -4,28 +4,28 @@ use Rattle.lvm_volume.specs.declared.group.volume.Volume.{Volume}
 use Rattle.lvm_volume.specs.declared.group.roles.Role.TheVariants as roles
 use Rattle.std.specs.Prelude.{◌+◌, ◌-◌, ◌||◌, ◌==◌, ◌∷◌}
 
--- ---- Records: volumes whose only segment is of type snapshot, and which say what its origin and its store are
+-- ---- Records: volumes whose only segment is of type snapshot, and names the snapshot's origin and its store
 
--- the snapshot that a segment describes, if it is of type snapshot; `line` is the segment's line
+-- the snapshot that a segment describes, or none if the segment isn't of type snapshot; `line` is the segment's line
 abbrev pub snapshot_of : (line : ℕ) → SegmentType → List Record
 snapshot_of line (Snapshot chunk_size origin store) = record { chunk_size = chunk_size; origin = origin; store = store; line = line } ∷ []
 snapshot_of line (Striped stripe_size stripes) = []
 snapshot_of line Zero = []
 snapshot_of line Error = []
 
--- the snapshot that a volume with these segments is the record of, if it is a record
+-- the snapshot of which a volume with these segments is the record, or none if the volume isn't a record
 abbrev pub recorded : List Segment → List Record
 recorded [] = []
 recorded (segment ∷ []) = snapshot_of segment.line segment.target
 recorded (segment ∷ second ∷ more) = []
 
--- the snapshots that the volumes are records of, in order
+-- the snapshots of which the volumes are records, in order
 abbrev pub records_of : List Volume → List Record
 records_of volumes = flat_map (λ volume. recorded volume.segments) volumes
 
 -- ---- the roles of volumes
 
--- the role of a volume that isn't a record, by whether it is an origin and by the snapshots that have it as their store
+-- the role of a volume that isn't a record, given whether it is an origin, and the snapshots that have it as their store
 abbrev pub role_by : (is_origin : Bool) → (stored : List Record) → Role
 role_by false [] = roles.Plain
 role_by true [] = roles.Origin
@@ -33,7 +33,7 @@ role_by false (snapshot ∷ []) = roles.Store snapshot
 role_by true (snapshot ∷ []) = roles.Clashing
 role_by is_origin (snapshot ∷ second ∷ more) = roles.Clashing
 
--- the role Record if the volume is a record, else this role
+-- the role Record if the volume is a record, or else the given role
 abbrev pub unless_recorded : List Record → Role → Role
 unless_recorded [] role = role
 unless_recorded (snapshot ∷ more) role = roles.Record
@@ -53,15 +53,15 @@ roles_of volumes = roles_among (records_of volumes) volumes
 
 -- ---- look-ups by position
 
--- the role of the volume at a position; Plain past the end
+-- the role of the volume at a position; Plain if there is no such position
 abbrev pub role_at : List Role → ℕ → Role
 role_at all position = slice_index_or all position roles.Plain
 
--- the segments of the volume at a position; none past the end
+-- the segments of the volume at a position; none if there is no such position
 abbrev pub segments_at : List Volume → ℕ → List Segment
 segments_at volumes position = slice_index_or (map (λ volume. volume.segments) volumes) position []
 
--- the name of the volume at a position; empty past the end
+-- the name of the volume at a position; empty if there is no such position
 abbrev pub name_at : List Volume → ℕ → List ℕ
 name_at volumes position = slice_index_or (map (λ volume. volume.name) volumes) position []
 
@@ -70,12 +70,12 @@ abbrev pub is_record : Role → Bool
 is_record roles.Record = true
 is_record _ = false
 
--- the volume is the exception store of one snapshot
+-- the volume is the exception store of exactly one snapshot, and nothing else
 abbrev pub is_store : Role → Bool
 is_store (roles.Store snapshot) = true
 is_store _ = false
 
--- the extent after a segment, or 0 if there is none
+-- the extent after the last one of a segment, or 0 if there is no segment
 abbrev pub end_of : Option Segment → ℕ
 end_of None = 0
 end_of (Some segment) = segment.start + segment.count
@@ -84,8 +84,8 @@ end_of (Some segment) = segment.start + segment.count
 abbrev pub extents_of : List Segment → ℕ
 extents_of segments = end_of (slice_get segments (length segments - 1))
 
--- the snapshot isn't the only segment of its volume, or its origin is a record, or its store has another role than being its store alone,
--- or it doesn't have as many extents as its origin
+-- the snapshot isn't the only segment of its volume, or its origin is a record, or its store also has another role, or the snapshot has more or fewer extents
+-- than its origin
 abbrev pub is_bad_target : List Volume → List Role → (alone : Bool) → (count : ℕ) → SegmentType → Bool
 is_bad_target volumes all alone count (Snapshot chunk_size origin store) =
     not alone
@@ -95,6 +95,6 @@ is_bad_target volumes all alone count (Striped stripe_size stripes) = false
 is_bad_target volumes all alone count Zero = false
 is_bad_target volumes all alone count Error = false
 
--- the segment is a snapshot that doesn't fit the other volumes; `alone` is true if its volume has no other segment
+-- the segment is a snapshot that doesn't fit the other volumes; `alone` is true if the segment is the only one of its volume
 abbrev pub is_bad_snapshot : List Volume → List Role → (alone : Bool) → Segment → Bool
 is_bad_snapshot volumes all alone segment = is_bad_target volumes all alone segment.count segment.target

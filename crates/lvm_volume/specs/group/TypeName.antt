@@ -1,4 +1,4 @@
--- The types of segments that are supported, and their words in a metadata text.
+-- The supported types of segments, and the words for them in a metadata text.
 use Rattle.lvm_volume.specs.Base.{ℕ, List, Option, Some, None, bytes_eq, codes}
 use Rattle.lvm_volume.specs.declared.group.segment.TypeName.{TypeName}
 use Rattle.lvm_volume.specs.declared.group.segment.TypeName.TheVariants.{Striped, Zero, Error, Snapshot}
@@ -11,7 +11,7 @@ type_text Zero = codes "zero"
 type_text Error = codes "error"
 type_text Snapshot = codes "snapshot"
 
--- the type of segment that a word stands for
+-- the type of segment that a word names, if that type is supported
 abbrev pub named_type : List ℕ → Option TypeName
 named_type word =
     if bytes_eq word (codes "striped") then Some Striped

@@ -1,7 +1,7 @@
 //! Checks how extents are used: physical volumes fit their devices, the segments of a volume follow each other, and no
-//! extent of a physical volume is in two stripes.
+//! two stripes use the same extent of a physical volume.
 //!
-//! The ranges in use are kept for each physical volume (`used`), over all logical volumes in the order of the text.
+//! The module `used` keeps the ranges in use on each physical volume, over all logical volumes in text order.
 
 ghost use Rattle.lvm_volume.specs.Prelude.{[], List, None, Some, true, false, not, nat_lt, length, IfOk, OnOk, result_err, list_any, IsChecked, first_of, Claim, claim_on, extents_at, is_misplaced, is_too_long, meets, segment_faults, size_faults, used_after, used_by, Claimed, Holds, claims_by};
 ghost use Rattle.lvm_volume.specs.checks.Extents as spec;
@@ -29,22 +29,21 @@ pub(crate) fn check_sizes(extent_size: u64, physicals: &[Physical]) -> Result<()
     Ok(())
 }
 
-/// Whether a physical volume is longer than its device. The end may not fit 64 bits, so it is computed with
-/// 128.
+/// Whether a physical volume is longer than its device. Computes with 128 bits, because the end may not fit 64.
 fn is_too_long(extent_size: u64, physical: &Physical) -> bool
     ensures { result ≡ is_too_long extent_size physical.now }
 {
     u128::from(physical.size) < end_of(physical.start, physical.count, extent_size)
 }
 
-/// The sector after `count` extents, the first of which is at sector `start`.
+/// The sector after the last of `count` extents, the first of which starts at sector `start`.
 fn end_of(start: u64, count: u64, extent_size: u64) -> u128
     ensures { result ≡ start + count * extent_size }
 {
     u128::from(start) + u128::from(count) * u128::from(extent_size)
 }
 
-/// Fails at the first segment that is misplaced, or uses extents that another stripe uses.
+/// Fails at the first segment that is misplaced, or that uses an extent which another stripe uses.
 ///
 /// Cost: near-linear in segments and stripes.
 pub(crate) fn check_extents(
@@ -60,7 +59,7 @@ pub(crate) fn check_extents(
     check_volumes(physicals, &mut maps, volumes)
 }
 
-/// Fails at the first misplaced segment; no extents are in use before.
+/// Fails at the first misplaced segment; no extents are in use before the first volume.
 fn check_volumes(
     physicals: &[Physical],
     maps: &mut [BTreeMap<u64, u64>],
@@ -76,7 +75,7 @@ fn check_volumes(
     Ok(())
 }
 
-/// For each physical volume, an empty map of ranges in use.
+/// An empty map of ranges in use for each physical volume.
 fn maps_of(alloc: Global, physicals: usize) -> Result<Vec<BTreeMap<u64, u64>>, AllocError>
     ensures held { IfOk result (λ maps. Holds maps.items []) }
     ensures len { IfOk result (λ maps. length maps.items ≡ physicals) }
@@ -114,7 +113,7 @@ fn check_segments(
     Ok(())
 }
 
-/// Whether a segment doesn't start at extent `end`, is badly divided, or clashes. If it is fine, it claims its extents.
+/// Whether a segment doesn't start at extent `end`, is badly divided, or clashes. If not, it claims its extents.
 fn is_misplaced(
     physicals: &[Physical],
     maps: &mut [BTreeMap<u64, u64>],
@@ -145,7 +144,7 @@ fn is_misplaced(
     }
 }
 
-/// Whether one of the stripes clashes. Stripes claim their extents in order, up to one that clashes.
+/// Whether one of the stripes clashes. The stripes claim extents in order, up to the first that clashes.
 fn claim_all(
     physicals: &[Physical],
     maps: &mut [BTreeMap<u64, u64>],
@@ -169,8 +168,8 @@ fn claim_all(
     Ok(false)
 }
 
-/// Whether `share` extents of a stripe extend beyond its physical volume. It subtracts rather than adds, so that
-/// nothing can overflow.
+/// Whether the `share` extents of a stripe extend beyond the end of its physical volume. Subtracts instead of adding,
+/// so that nothing can overflow.
 fn passes_physical_end(physicals: &[Physical], stripe: &Stripe, share: u64) -> bool
     requires { 0 < share }
     ensures value { result
@@ -184,7 +183,7 @@ fn passes_physical_end(physicals: &[Physical], stripe: &Stripe, share: u64) -> b
     }
 }
 
-/// Claims a range of extents of a physical volume, unless one of them is in use; returns whether it did.
+/// Claims a range of extents on a physical volume, unless one of them is in use; returns whether all were free.
 fn claim_extents(
     maps: &mut [BTreeMap<u64, u64>],
     physical: usize,

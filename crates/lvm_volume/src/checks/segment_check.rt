@@ -1,8 +1,8 @@
-//! Checks what segments refer to: each stripe names a physical volume of the group, and each snapshot names two of
-//! its logical volumes, which can be its origin and its own store.
+//! Checks what segments refer to: each stripe names a physical volume of the group, and each snapshot names two of its
+//! logical volumes, of which one can be its origin and the other its own store.
 //!
-//! The fault is at the first segment in the text. Segments may be there in any order, so this is the one on the
-//! least line, not the one with the least number.
+//! The first segment in the text that the check refuses is at fault. A text may contain segments in any order, so the
+//! first one is the one on the least line, not the one with the least number.
 
 ghost use Rattle.lvm_volume.specs.Prelude.{None, length, not, nat_lt, result_err, list_any, Unknown, IsChecked, first_of, at_line, is_unknown, least_line, least_line_of, snapshot_faults_in, test_of, is_bad_snapshot, is_bad_target};
 ghost use Rattle.std.specs.Prelude.{◌≡◌, ◌==◌};
@@ -19,7 +19,7 @@ use std::alloc::Global;
 /// A check of one segment.
 #[derive(Drop)]
 enum SegmentCheck<'g> {
-    /// The segment refers to a physical or logical volume that doesn't exist; the numbers are how many do.
+    /// The segment refers to a volume that doesn't exist; `physicals` and `volumes` count those that do.
     Unknown {
         physicals: usize,
         volumes: usize,
@@ -59,7 +59,7 @@ pub(crate) fn check_snapshots(alloc: Global, volumes: &[Volume]) -> Result<(), L
     check_least(LoadKind::Snapshot, least_line_of(&check, volumes))
 }
 
-/// Fails with a fault of this kind if there is a line for it.
+/// Fails with a fault of this kind on the line, if there is a line.
 fn check_least(kind: LoadKind, line: Option<u64>) -> Result<(), LoadFault>
     ensures { result_err result ≡ first_of (at_line kind line) }
 {
@@ -69,7 +69,7 @@ fn check_least(kind: LoadKind, line: Option<u64>) -> Result<(), LoadFault>
     }
 }
 
-/// The least line of a segment, in any volume, that the check finds fault with.
+/// The least line of a segment, in any volume, that the check refuses.
 fn least_line_of(check: &SegmentCheck<'_>, volumes: &[Volume]) -> Option<u64>
     ensures { result ≡ least_line_of (test_of check.now) volumes.now }
 {
@@ -82,7 +82,7 @@ fn least_line_of(check: &SegmentCheck<'_>, volumes: &[Volume]) -> Option<u64>
     least
 }
 
-/// The least line among `others` and the lines of this volume's segments that the check finds fault with.
+/// The least line among `others`, if there is one, and the lines of this volume's segments that the check refuses.
 fn least_line(check: &SegmentCheck<'_>, segments: &[Segment], others: Option<u64>) -> Option<u64>
     ensures { result ≡ least_line (test_of check.now (length segments.now == 1)) segments.now others }
 {
@@ -98,7 +98,7 @@ fn least_line(check: &SegmentCheck<'_>, segments: &[Segment], others: Option<u64
     least
 }
 
-/// The lesser of a line and another, if there is another.
+/// The lesser of two lines, or the first one if there is no other.
 fn lesser(line: u64, other: Option<u64>) -> u64
     ensures { result ≡ spec.lesser line other }
 {
@@ -108,7 +108,7 @@ fn lesser(line: u64, other: Option<u64>) -> u64
     }
 }
 
-/// Whether the check finds fault with a segment; `alone` is true if its volume has no other segment.
+/// Whether the check refuses a segment; `alone` is true if the segment is the only one of its volume.
 fn is_hit(check: &SegmentCheck<'_>, alone: bool, segment: &Segment) -> bool
     ensures { result ≡ test_of check.now alone segment.now }
 {
@@ -138,7 +138,7 @@ fn has_unknown(physicals: usize, stripes: &[Stripe]) -> bool
     stripes.iter().any(|stripe| !(stripe.physical < physicals))
 }
 
-/// Whether a segment is a snapshot that doesn't fit these volumes; `alone` is true if its volume has no other segment.
+/// Whether a segment is a snapshot that doesn't fit these volumes; `alone` is true if it is the only one of its volume.
 fn is_bad_snapshot(volumes: &[Volume], roles: &[Role], alone: bool, segment: &Segment) -> bool
     ensures { result ≡ is_bad_snapshot volumes.now roles.now alone segment.now }
 {

@@ -1,7 +1,7 @@
 //! The extents of a physical volume that are in use, as ranges that don't overlap.
 //!
-//! The ranges are in a map by their first extent. Of the ranges that begin before the end of a new one, only the
-//! last can overlap it, so one look-up decides, and the check of all extents is near-linear.
+//! A map contains the ranges by their first extents. Among the ranges that begin before the end of a new one, only the
+//! last can overlap it, so one look-up is enough, and the check of all extents is near-linear.
 
 ghost use Rattle.lvm_volume.specs.Prelude.{List, ℕ, true, not, IfOk, list_any, HasRanges, reaches};
 ghost use Rattle.std.specs.Prelude.{◌≡◌, ◌<◌, ◌∷◌};
@@ -9,10 +9,10 @@ ghost use Rattle.std.specs.Prelude.{◌≡◌, ◌<◌, ◌∷◌};
 use std::alloc::{AllocError, Global};
 use std::collections::BTreeMap;
 
-/// Claims the extents from `first` up to but not including `end`, and returns whether they were all free.
-/// If one of them was in use, nothing changes.
+/// Claims the extents from `first` up to but not including `end`, and returns whether all of them were free. If one was
+/// in use, nothing changes.
 ///
-/// Cost: about `log n` steps at `n` ranges.
+/// Cost: about `log n` steps if there are `n` ranges.
 pub(crate) fn take(used: &mut BTreeMap<u64, u64>, first: u64, end: u64) -> Result<bool, AllocError>
     requires { first < end }
     ensures free { (ranges : List (ℕ × ℕ)) → HasRanges used.old ranges

@@ -1,4 +1,4 @@
-//! Tests of content: whether lists are valid for their fields, and whether integers are within the limits.
+//! Tests of content: whether a list is valid for its field, and whether integers are within their limits.
 //!
 //! Change a limit here and in `specs/fields/Fields.antt` together.
 
@@ -32,7 +32,7 @@ pub(crate) fn are_texts(items: &[Scalar<'_>]) -> bool
     true
 }
 
-/// Whether a list consists of pairs of a string and an integer. One pass.
+/// Whether a list consists of pairs, each of a string and an integer. One pass.
 pub(crate) fn are_pairs(items: &[Scalar<'_>]) -> bool
     ensures { result ≡ are_pairs (scalar_views items.now) }
 {
@@ -43,14 +43,14 @@ pub(crate) fn are_pairs(items: &[Scalar<'_>]) -> bool
     rest.is_empty()
 }
 
-/// Whether a number is half of a length. It halves rather than doubles, so that nothing can overflow.
+/// Whether a number is half of a length. Halves the length, because doubling the number could overflow.
 pub(crate) fn is_half(number: u64, len: usize) -> bool
     ensures { result ≡ (2 * number == len) }
 {
     len % 2 == 0 && len as u64 / 2 == number
 }
 
-/// Whether a product is above the limit, even if it doesn't fit 64 bits.
+/// Whether a product is above the limit, even if the product doesn't fit 64 bits.
 pub(crate) fn is_far_product(count: u64, size: u64) -> bool
     ensures { result ≡ nat_lt most (count * size) }
 {
@@ -60,7 +60,7 @@ pub(crate) fn is_far_product(count: u64, size: u64) -> bool
     }
 }
 
-/// Whether a list has an integer above the limit.
+/// Whether a list contains an integer above the limit.
 pub(crate) fn has_far(items: &[Scalar<'_>]) -> bool
     ensures { result ≡ list_any is_far_scalar (scalar_views items.now) }
 {

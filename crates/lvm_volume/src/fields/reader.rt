@@ -1,8 +1,8 @@
-//! Reads the fields of a metadata text: looks each up once, and returns its content if it is valid.
+//! Reads the fields of a metadata text: looks each field up once, and returns its content if that is valid.
 //!
-//! Fields have two checks, each defined over the whole text before the next begins: whether they are there and
-//! valid, and whether their integers are within the limits. One pass does both: it stops at the first invalid
-//! field, and keeps the first integer above its limit until the end (`IsStep` in `specs/fields/Steps.antt`).
+//! There are two checks of fields, each of which is defined over the whole text: whether fields are present and valid,
+//! and whether their integers are within the limits. One pass runs both: it stops at the first invalid field, and keeps
+//! the fault of the first integer above its limit until the end (`IsStep` in `specs/fields/Steps.antt`).
 
 ghost use Rattle.lvm_volume.specs.Prelude.{[], ℕ, Bool, List, false, None, Some, IfErr, IfOk, MatchResult, codes, result_err, Tree, node_of, content_view, node_view, scalar_views, Source, fault_at, field, field_faults, inner_sections, is_far, number_at, text_at, items_at, section_at, sections_at, source_faults, FieldReader, IsPlainStep, IsStep, after, at_key, number_kind};
 ghost use Rattle.std.specs.Prelude.{◌≡◌, ◌∷◌, if◌then◌else◌};
@@ -23,7 +23,7 @@ pub(crate) enum NumberKind {
     Any,
     /// An integer of 1 or more.
     Positive,
-    /// A number of extents: any integer, with a limit that also counts in sectors.
+    /// A number of extents: any integer, to which the limit also applies when it is counted in sectors.
     Extents,
 }
 
@@ -38,7 +38,7 @@ impl NumberKind {
         }
     }
 
-    /// Whether a number is above 2^50; a number of extents also if it is above that in sectors.
+    /// Whether a number is above 2^50; a number of extents also if it is above 2^50 when counted in sectors.
     fn is_far(self, extent_size: u64, number: u64) -> bool
         ensures { result ≡ is_far extent_size (number_kind self) (tree.Whole (tree.Int number)) }
     {
@@ -49,7 +49,7 @@ impl NumberKind {
     }
 }
 
-/// The state while a group's fields are read: the extent size in sectors, and the first integer above its limit.
+/// The state while a group's fields are read: its extent size in sectors, and the first fault of exceeding a limit.
 #[derive(Clone, Copy, Drop)]
 pub(crate) struct FieldReader {
     pub extent_size: u64,
@@ -57,7 +57,7 @@ pub(crate) struct FieldReader {
 }
 
 impl FieldReader {
-    /// A reader that has read a group's extent size, and nothing else.
+    /// A reader that has read a group's extent size, and no other field.
     pub(crate) fn of_group(group: &Section<'_>) -> Result<FieldReader, LoadFault>
         ensures passed { IfOk result (λ reader. (reader.extent_size ≡ number_at (codes "extent_size") group.now)
             × IsStep (at_key kinds.Positive (codes "extent_size") group.now)
@@ -76,7 +76,7 @@ impl FieldReader {
         })
     }
 
-    /// The number under a key that is required. Notes a fault if it is above its limit.
+    /// The number under a required key. If the number is above its limit, the reader keeps a fault for it.
     pub(crate) fn number(
         &mut self,
         section: &Section<'_>,
@@ -95,7 +95,7 @@ impl FieldReader {
         Ok(number)
     }
 
-    /// Keeps a fault for an integer above its limit, on this line, unless there is an earlier one.
+    /// Keeps a fault on this line if an integer there is above its limit, unless the reader already has a fault.
     pub(crate) fn note(&mut self, is_far: bool, line: u64)
         ensures { self.new ≡ after self.old (if is_far then source_faults loads.Limit line else []) }
     {
@@ -105,7 +105,7 @@ impl FieldReader {
     }
 }
 
-/// The node of a key, or a fault if the key is missing.
+/// The node under a key, or a fault if the key is missing.
 pub(crate) fn node_at<'s, 'a>(
     section: &'s Section<'a>,
     key: &str,
@@ -121,21 +121,21 @@ pub(crate) fn node_at<'s, 'a>(
     }
 }
 
-/// The fault of a field that is missing in the section on this line.
+/// The fault of a field that is missing from the section on this line.
 pub(crate) fn missing(line: u64) -> LoadFault
     ensures { result ≡ fault_at Source loads.Field line }
 {
     source_fault(LoadKind::Field, line)
 }
 
-/// The fault of a field whose content isn't valid.
+/// The fault of a field whose content is invalid.
 pub(crate) fn wrong(node: &Node<'_>) -> LoadFault
     ensures { result ≡ fault_at Source loads.Field (node_view node.now).line }
 {
     source_fault(LoadKind::Field, node.line())
 }
 
-/// The integer that a field has, or a fault if it has something else.
+/// The integer in a field, or a fault if the field contains something else.
 pub(crate) fn integer_of(node: &Node<'_>) -> Result<u64, LoadFault>
     ensures { MatchResult result
         (λ number. content_view node.now.value ≡ tree.Whole (tree.Int number))
@@ -148,7 +148,7 @@ pub(crate) fn integer_of(node: &Node<'_>) -> Result<u64, LoadFault>
     }
 }
 
-/// The string that a field has, or a fault if it has something else.
+/// The string in a field, or a fault if the field contains something else.
 pub(crate) fn text_of<'a>(node: &Node<'a>) -> Result<&'a str, LoadFault>
     ensures { MatchResult result
         (λ text. content_view node.now.value ≡ tree.Whole (tree.Text text.now))
@@ -161,7 +161,7 @@ pub(crate) fn text_of<'a>(node: &Node<'a>) -> Result<&'a str, LoadFault>
     }
 }
 
-/// The list that a field has, or a fault if it has something else.
+/// The list in a field, or a fault if the field contains something else.
 pub(crate) fn items_of<'s, 'a>(node: &'s Node<'a>) -> Result<&'s [Scalar<'a>], LoadFault>
     ensures { MatchResult result
         (λ items. content_view node.now.value ≡ tree.Items (scalar_views items.now))
@@ -174,7 +174,7 @@ pub(crate) fn items_of<'s, 'a>(node: &'s Node<'a>) -> Result<&'s [Scalar<'a>], L
     }
 }
 
-/// The section that a field has, or a fault if it has something else.
+/// The section in a field, or a fault if the field contains something else.
 fn section_of<'s, 'a>(node: &'s Node<'a>) -> Result<&'s Section<'a>, LoadFault>
     ensures { MatchResult result
         (λ section. content_view node.now.value ≡ tree.Inner section.now)
@@ -187,7 +187,7 @@ fn section_of<'s, 'a>(node: &'s Node<'a>) -> Result<&'s Section<'a>, LoadFault>
     }
 }
 
-/// The string under a key that is required.
+/// The string under a required key.
 pub(crate) fn text_at<'a>(section: &Section<'a>, key: &str) -> Result<&'a str, LoadFault>
     ensures step { IsPlainStep (at_key kinds.Text key.now section.now) (result_err result) }
     ensures value { IfOk result (λ text. text.now ≡ text_at key.now section.now) }
@@ -195,7 +195,7 @@ pub(crate) fn text_at<'a>(section: &Section<'a>, key: &str) -> Result<&'a str, L
     text_of(node_at(section, key)?)
 }
 
-/// The list of strings under a key that is required.
+/// The list of strings under a required key.
 #[tactic(auto, using(crate::proofs::fields::TextLemmas::none_far))]
 pub(crate) fn texts_at<'s, 'a>(
     section: &'s Section<'a>,
@@ -212,7 +212,7 @@ pub(crate) fn texts_at<'s, 'a>(
     Ok(items)
 }
 
-/// The section under a key that is required.
+/// The section under a required key.
 pub(crate) fn section_at<'s, 'a>(
     section: &'s Section<'a>,
     key: &str,

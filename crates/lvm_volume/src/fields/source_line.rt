@@ -1,7 +1,7 @@
 //! Places and faults on a line of the metadata text.
 //!
-//! The place of each fault, device, line and disk of metadata is made here. Lines count from 1; running out of
-//! memory has no line.
+//! The places of all faults, devices, lines and disks of a metadata text are made here. Lines count from 1; the fault
+//! of running out of memory has no line.
 
 ghost use Rattle.lvm_volume.specs.Prelude.{Source, IsMemoryFault, fault_at, source_line};
 ghost use Rattle.std.specs.Prelude.{◌≡◌};

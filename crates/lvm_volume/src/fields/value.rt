@@ -1,4 +1,4 @@
-//! Content of a section that no check requires, and the sections inside it.
+//! Content of a section that may be missing, and the sections inside a section.
 
 ghost use Rattle.lvm_volume.specs.Prelude.{map, unwrap_or, IfOk, item_view, inner_sections, items_at, items_view, number_at, sections_at, text_at};
 ghost use Rattle.std.specs.Prelude.{◌≡◌};
@@ -7,7 +7,7 @@ ghost use Rattle.lvm_text.specs.Tree as spec;
 use lvm_text::{Scalar, Section, Value};
 use std::alloc::{AllocError, Global};
 
-/// The integer under a key, or `None` if the key is missing or has something else.
+/// The integer under a key, or `None` if the key is missing or has other content.
 pub(crate) fn number_if_given(section: &Section<'_>, key: &str) -> Option<u64>
     ensures { unwrap_or result 0 ≡ number_at key.now section.now }
 {
@@ -20,7 +20,7 @@ pub(crate) fn number_if_given(section: &Section<'_>, key: &str) -> Option<u64>
     }
 }
 
-/// The list under a key, or `None` if the key is missing or has something else.
+/// The list under a key, or `None` if the key is missing or has other content.
 pub(crate) fn items_if_given<'s, 'a>(
     section: &'s Section<'a>,
     key: &str,
@@ -36,7 +36,7 @@ pub(crate) fn items_if_given<'s, 'a>(
     }
 }
 
-/// The string under a key, or an empty one if the key is missing or has something else.
+/// The string under a key, or an empty one if the key is missing or has other content.
 pub(crate) fn text_or_empty<'a>(section: &Section<'a>, key: &str) -> &'a str
     ensures { result.now ≡ text_at key.now section.now }
 {
@@ -49,7 +49,7 @@ pub(crate) fn text_or_empty<'a>(section: &Section<'a>, key: &str) -> &'a str
     }
 }
 
-/// The section under a key, or `None` if the key is missing or has something else.
+/// The section under a key, or `None` if the key is missing or has other content.
 pub(crate) fn section_if_there<'s, 'a>(
     section: &'s Section<'a>,
     key: &str,
@@ -65,7 +65,7 @@ pub(crate) fn section_if_there<'s, 'a>(
     }
 }
 
-/// The sections inside a section with their keys, in source order.
+/// The sections inside a section, with their keys, in the order of the text.
 pub(crate) fn sections_of<'s, 'a>(
     alloc: Global,
     section: &'s Section<'a>,

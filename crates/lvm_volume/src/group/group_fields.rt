@@ -17,8 +17,8 @@ use dm_table::LoadFault;
 use lvm_text::Section;
 use std::alloc::Global;
 
-/// A volume group as its text describes it: its key, the extent size in sectors, its physical volumes, whose disks
-/// have no names yet, and its logical volumes.
+/// A volume group as its text describes it: its key, the extent size in sectors, the physical volumes, whose disks have
+/// no names yet, and the logical volumes.
 #[derive(Drop)]
 pub(crate) struct GroupFields<'a> {
     pub name: &'a str,
@@ -27,7 +27,7 @@ pub(crate) struct GroupFields<'a> {
     pub volumes: Vec<Volume>,
 }
 
-/// Reads the fields of the volume group in a text, or returns the first fault of the first check that finds one.
+/// Reads the fields of the volume group in a text, or returns the first fault of the first check that finds any.
 ///
 /// Cost: near-linear in the number of values in the sections that are read.
 pub(crate) fn read_fields<'a>(
@@ -49,7 +49,7 @@ pub(crate) fn read_fields<'a>(
     }
 }
 
-/// Fails unless the text is the metadata of a volume group, in the version that is known.
+/// Fails unless the text is the metadata of a volume group, in the known version.
 fn check_head(top: &Section<'_>) -> Result<(), LoadFault>
     ensures { IsPlainStep (λ check. fields_faults check top.now top_fields) (result_err result) }
 {
@@ -57,7 +57,7 @@ fn check_head(top: &Section<'_>) -> Result<(), LoadFault>
     check_version(top)
 }
 
-/// Fails unless the text says that it is the metadata of a volume group.
+/// Fails unless the title of the text says that it is the metadata of a volume group.
 fn check_title_field(top: &Section<'_>) -> Result<(), LoadFault>
     ensures { IsPlainStep (at_key kinds.Title (codes "contents") top.now) (result_err result) }
 {
@@ -69,7 +69,7 @@ fn check_title_field(top: &Section<'_>) -> Result<(), LoadFault>
     }
 }
 
-/// Fails unless the text has version 1, the only one known.
+/// Fails unless the version of the text is 1, the only known one.
 fn check_version(top: &Section<'_>) -> Result<(), LoadFault>
     ensures { IsPlainStep (at_key kinds.Version (codes "version") top.now) (result_err result) }
 {
@@ -81,7 +81,7 @@ fn check_version(top: &Section<'_>) -> Result<(), LoadFault>
     }
 }
 
-/// A group's own fields: a reader that knows the extent size, and the sections of the physical volumes and of the
+/// The fields of a group itself: a reader that has the extent size, and the sections of the physical volumes and of the
 /// logical volumes.
 #[derive(Clone, Copy, Drop)]
 struct GroupHead<'s, 'a> {
@@ -90,7 +90,7 @@ struct GroupHead<'s, 'a> {
     volumes: Option<&'s Section<'a>>,
 }
 
-/// Reads a group's own fields, without those of its physical and logical volumes.
+/// Reads the fields of a group itself, without those of its physical and logical volumes.
 fn head_of<'s, 'a>(group: &'s Section<'a>) -> Result<GroupHead<'s, 'a>, LoadFault>
     ensures step { (old new : FieldReader) → MatchResult result
         (λ head. IsStep (λ check. fields_faults check group.now group_fields)
@@ -112,7 +112,7 @@ fn head_of<'s, 'a>(group: &'s Section<'a>) -> Result<GroupHead<'s, 'a>, LoadFaul
     })
 }
 
-/// Reads all fields in the section of a group, given with its key.
+/// Reads all fields in the section of a group; `group` is the section with its key.
 #[tactic(auto, unfolding(crate::specs::fields::Fields::group_faults))]
 fn group_fields<'a>(
     alloc: Global,
@@ -155,7 +155,7 @@ fn physicals_of<'a>(
     fields_in(alloc, reader, &sections)
 }
 
-/// Reads all logical volumes in a section, if the group has one; their stripes name the physical volumes.
+/// Reads all logical volumes in a section, or none if there is no section; their stripes refer to `physicals` by key.
 fn volumes_of<'a>(
     alloc: Global,
     reader: &mut FieldReader,

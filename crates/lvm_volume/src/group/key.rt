@@ -1,4 +1,4 @@
-//! A copy of a section's key, which outlives the text. A contract sees its bytes.
+//! A copy of a section's key, which outlives the text. To a contract, the copy is the bytes of the key.
 
 ghost use Rattle.lvm_volume.specs.Prelude.{IfOk};
 ghost use Rattle.std.specs.Prelude.{◌≡◌};
@@ -21,7 +21,7 @@ impl Model for Key {
 }
 
 impl Key {
-    /// Copies a key; allocates once.
+    /// Copies a key; makes one allocation.
     pub(crate) fn new(alloc: Global, key: &str) -> Result<Key, AllocError>
         ensures { IfOk result (λ copy. copy ≡ key.now) }
     {

@@ -1,5 +1,5 @@
-//! Assigns disks to physical volumes by id: the header of a disk's image has an id, and so has each physical volume's
-//! section. A physical volume whose id no image has keeps the name that it has without images.
+//! Assigns disks to physical volumes by ids: the header of a disk's image has an id, and so has a physical volume's
+//! section. A physical volume keeps its name if no image has its id.
 
 ghost use Rattle.lvm_volume.specs.Prelude.{[], List, ℕ, IfOk, false, bytes_eq, codes, length, map, option_map, slice_index_or, unwrap_or, item_view, inner_sections, sections_at, first_section, all_owned, disk_fault, id_in, lay_elsewhere, letters_of, name_by, owned_group, owner_of, physicals_of, section_of, untaken, ids_view, owners_view};
 ghost use Rattle.std.specs.Prelude.{◌≡◌, ◌∷◌};
@@ -19,10 +19,10 @@ pub struct Owners<'a> {
     pub disks: &'a [DiskPath],
 }
 
-/// Why a disk can't be used for the physical volume with its id.
+/// Why a disk can't be used for the physical volume whose id it carries.
 #[derive(Clone, Copy, Debug, PartialEq, Eq, Drop)]
 pub enum DiskFault {
-    /// No physical volume in the text has the id of the disk's image.
+    /// No physical volume in the text has the id in the header of the disk's image.
     Foreign,
     /// The physical volume was missing when the text was written, so the disk may be older than the text.
     Missing,
@@ -44,7 +44,7 @@ pub(crate) fn physicals_of<'s, 'a>(
     }
 }
 
-/// The section that has the physical volumes of the first group.
+/// The section of the first group that contains its physical volumes.
 fn physicals_in<'s, 'a>(groups: &[(&'a str, &'s Section<'a>)]) -> Option<&'s Section<'a>>
     ensures { sections_at (codes "physical_volumes") (first_section (map item_view groups.now)).1
         ≡ inner_sections result }
@@ -55,7 +55,7 @@ fn physicals_in<'s, 'a>(groups: &[(&'a str, &'s Section<'a>)]) -> Option<&'s Sec
     }
 }
 
-/// The ids of physical volumes as the text has them, with dashes; empty where there is none.
+/// The ids of physical volumes as the text writes them, with dashes; empty for a physical volume that has no id.
 pub(crate) fn ids_of<'a>(
     alloc: Global,
     physicals: &[(&'a str, &Section<'a>)],
@@ -69,7 +69,7 @@ pub(crate) fn ids_of<'a>(
     Ok(ids)
 }
 
-/// Whether a text is this id, apart from dashes in the text.
+/// Whether a text is this id, if dashes in the text are left out.
 fn has_letters(text: &str, id: &[u8]) -> bool
     ensures { result ≡ bytes_eq id.now (letters_of text.now) }
 {
@@ -83,7 +83,7 @@ fn has_letters(text: &str, id: &[u8]) -> bool
     rest.len() == 0
 }
 
-/// The part of an id that is left after a byte of the text; a dash in the text uses up nothing. `None` if they differ.
+/// The bytes of an id after `letter`, its first byte; the whole id if `letter` is a dash. `None` if they differ.
 #[tactic(auto, unfolding(crate::specs::group::Owners::letters_of))]
 fn after_letter(id: &[u8], letter: u8) -> Option<&[u8]>
     ensures { (more : List ℕ) → bytes_eq id.now (letters_of (letter ∷ more))
@@ -113,7 +113,7 @@ fn section_of<'s, 'a>(
     None
 }
 
-/// Whether a physical volume was on an md array when its text was written, and its disk now has a different name.
+/// Whether a physical volume was on an md array when the text was written, and the disk is named differently now.
 fn lay_elsewhere(name: &str, physical: &Section<'_>) -> bool
     ensures { result ≡ lay_elsewhere name.now physical.now }
 {
@@ -121,7 +121,7 @@ fn lay_elsewhere(name: &str, physical: &Section<'_>) -> bool
     device.as_bytes().starts_with(b"/dev/md") && device != name
 }
 
-/// Why the disk with this name can't be used for the physical volume with its id, if so.
+/// Why the disk of this name can't be used for the physical volume whose id it carries; `None` if it can.
 fn disk_fault(name: &str, physical: Option<&Section<'_>>) -> Option<DiskFault>
     ensures { result ≡ disk_fault name.now (option_map (λ section. section.now) physical.entry) }
 {
@@ -149,7 +149,7 @@ fn name_of<'a>(disks: &'a [DiskPath], disk: usize) -> &'a str
     }
 }
 
-/// The first disk that can't be used for the physical volume with its id, with the reason.
+/// The number of the first disk that can't be used for the physical volume whose id it carries, and the reason.
 pub(crate) fn first_untaken<'s, 'a>(
     owners: &Owners<'_>,
     physicals: &[(&'a str, &'s Section<'a>)],
@@ -166,7 +166,7 @@ pub(crate) fn first_untaken<'s, 'a>(
     None
 }
 
-/// The number of the first image whose id is this text, apart from dashes.
+/// The number of the first image whose id is this text without dashes.
 fn owner_of(owners: &[[u8; 32]], id: &str) -> Option<usize>
     ensures { result ≡ owner_of owners.now (letters_of id.now) }
 {
@@ -196,7 +196,7 @@ fn name_by(
     }
 }
 
-/// Copies physical volumes, each renamed to the disk whose image has its id, if there is one.
+/// Copies physical volumes, each renamed to the disk whose image has the volume's id, if there is one.
 fn all_owned(
     alloc: Global,
     owners: &Owners<'_>,
@@ -218,7 +218,7 @@ fn all_owned(
     Ok(all)
 }
 
-/// A group with its physical volumes renamed to the disks whose images have their ids, where there is one.
+/// A group with its physical volumes, each renamed to the disk whose image has the volume's id, if there is one.
 pub(crate) fn owned_group(
     alloc: Global,
     owners: &Owners<'_>,

@@ -1,7 +1,7 @@
 //! Physical volumes as their sections describe them, and the names of their disks.
 //!
-//! The device in a section is only a hint, and two physical volumes may have the same one. So a disk is named
-//! after its device only if that is an absolute path that no other physical volume has, and else after the key.
+//! The device in a section is only a hint, and two physical volumes may have the same device. So a disk is named after
+//! its device only if the device is an absolute path that no other physical volume has, and otherwise after the key.
 //! The rule is `chosen` in `specs/group/Group.antt`.
 
 ghost use Rattle.lvm_volume.specs.Prelude.{Err, List, [], ℕ, None, false, true, map, nat_lt, unwrap_or, IfOk, result_err, nat_cmp, slice_cmp, get_by, item_view, Source, Answers, unless, is_disk_name, fields_faults, first_of, physical_fields, physicals_faults, IsStep, name_faults, chosen, Counts, all_named, fields_of, fields_view, with_disk_name, devices_in};
@@ -15,8 +15,8 @@ use lvm_text::Section;
 use std::alloc::{AllocError, Global};
 use std::collections::BTreeMap;
 
-/// A physical volume as its section describes it: its key, its device, the device's size in sectors, the sector at
-/// which its extents begin, how many there are, and the line of the key.
+/// A physical volume as its section describes it: the key, the device, the size of the device in sectors, the sector at
+/// which the extents begin, the number of extents, and the line of the key.
 #[derive(Clone, Copy, Drop)]
 pub(crate) struct PhysicalFields<'a> {
     pub key: &'a str,
@@ -27,8 +27,8 @@ pub(crate) struct PhysicalFields<'a> {
     pub line: u64,
 }
 
-/// A physical volume: the name of its disk, the disk's size in sectors, the sector at which its extents begin, how
-/// many there are, and the line of its key.
+/// A physical volume: the name of its disk, the size of the disk in sectors, the sector at which the extents begin, the
+/// number of extents, and the line of the key.
 #[derive(Debug, Drop)]
 pub(crate) struct Physical {
     pub disk: DiskName,
@@ -85,7 +85,7 @@ fn fields_of<'a>(
     })
 }
 
-/// Names the disks of all physical volumes, or fails at the first one that gets no valid name.
+/// Names the disks of all physical volumes, or fails at the first one for which there is no valid name.
 ///
 /// Cost: near-linear; allocates for each name.
 pub(crate) fn named_physicals(
@@ -110,7 +110,7 @@ pub(crate) fn named_physicals(
     Ok(physicals)
 }
 
-/// How many physical volumes have each device.
+/// How many physical volumes have each of the devices.
 fn counts_of<'a>(
     alloc: Global,
     all: &[PhysicalFields<'a>],
@@ -134,8 +134,7 @@ fn is_shared(counts: &BTreeMap<&str, usize>, device: &str) -> bool
     }
 }
 
-/// The name for a disk: the device, if it is an absolute path, valid as a disk name and not shared, else the
-/// key.
+/// The name for a disk: the device if it is an absolute path, valid as a disk name and not shared, or else the key.
 #[tactic(auto, unfolding(crate::specs::group::Group::chosen))]
 fn disk_name(alloc: Global, shared: bool, key: &str, device: &str) -> Result<DiskName, CheckFault>
     ensures named { IfOk result (λ name. name ≡ chosen shared key.now device.now) }
@@ -152,7 +151,7 @@ fn disk_name(alloc: Global, shared: bool, key: &str, device: &str) -> Result<Dis
     DiskName::new(alloc, key)
 }
 
-/// Makes a physical volume of its fields, or fails if its disk gets no valid name.
+/// Makes a physical volume from its fields, or fails if there is no valid name for its disk.
 fn with_disk_name(
     alloc: Global,
     counts: &BTreeMap<&str, usize>,

@@ -1,7 +1,7 @@
-//! The positions of physical and logical volumes by their keys, so that a reference to one is resolved at about the
-//! same cost however many there are.
+//! The positions of physical and logical volumes by their keys. Resolving a reference costs about the same however many
+//! volumes there are.
 //!
-//! The keys in a section all differ, so each is new when it is added. A contract sees the keys in source order.
+//! No two keys in a section are the same, so each is new when it is added. A contract sees the keys in text order.
 
 ghost use Rattle.lvm_volume.specs.Prelude.{[], false, IfOk, OnOk, bytes_eq, list_any, sections_of, keys_in, position_of, texts};
 ghost use Rattle.std.specs.Prelude.{◌≡◌, ◌++◌, ◌∷◌};
@@ -45,7 +45,7 @@ impl<'a> Positions<'a> {
         Ok(Positions { keys })
     }
 
-    /// The position of a key, or the number of keys if it isn't one of them.
+    /// The position of a key, or the number of keys if the key isn't among them.
     pub(crate) fn position_of(&self, key: &str) -> usize
         ensures { result ≡ position_of self.now key.now }
     {
@@ -75,7 +75,7 @@ impl<'a> GroupPositions<'a> {
     }
 }
 
-/// Appends a key, which must differ from the others.
+/// Appends a key, which must differ from all keys before it.
 fn add_key<'a>(keys: &mut IndexSet<&'a str>, key: &'a str) -> Result<(), AllocError>
     requires { list_any (bytes_eq key.now) (texts keys.old.keys) ≡ false }
     ensures { OnOk result (texts keys.new.keys ≡ texts keys.old.keys ++ key.now ∷ []) }

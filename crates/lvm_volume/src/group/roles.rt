@@ -1,8 +1,8 @@
 //! The roles that the volumes of a group have for its snapshots.
 //!
-//! A volume whose only segment is of type snapshot is a record: it makes no device, but says which volume is the
-//! origin of the snapshot and which its store. The roles of all volumes are found in one pass over the records; the
-//! check of snapshots, the names of devices and the devices themselves depend on them.
+//! A volume whose only segment is of type snapshot is a record: it becomes no device, but names the origin and the
+//! store of a snapshot. One pass over the records finds the roles of all volumes; the check of snapshots, the names of
+//! devices and the devices themselves depend on the roles.
 
 ghost use Rattle.lvm_volume.specs.Prelude.{[], IfOk, extents_of, is_record, is_store, name_at, recorded, role_at, roles_among, roles_of, segments_at, changed, record_list, with_origin, with_store};
 ghost use Rattle.std.specs.Prelude.{◌≡◌};
@@ -32,9 +32,9 @@ pub(crate) enum Role {
     Origin,
     /// The exception store of this snapshot.
     Store(Record),
-    /// The record of a snapshot, which says its origin and its store.
+    /// The record of a snapshot, which names its origin and its store.
     Record,
-    /// A store that is also an origin, or the store of several snapshots: the check of snapshots refuses it.
+    /// A store that is also an origin, or the store of several snapshots; the check of snapshots refuses such a group.
     Clashing,
 }
 
@@ -53,7 +53,7 @@ impl Role {
         matches!(self, Role::Store(_))
     }
 
-    /// The role after one more snapshot that has this volume as its origin.
+    /// The volume's new role once one more snapshot has the volume as its origin.
     fn with_origin(self) -> Role
         ensures { result ≡ with_origin self }
     {
@@ -64,7 +64,7 @@ impl Role {
         }
     }
 
-    /// The role after one more snapshot that has this volume as its store.
+    /// The volume's new role once one more snapshot has the volume as its store.
     fn with_store(self, snapshot: Record) -> Role
         ensures { result ≡ with_store snapshot self }
     {
@@ -76,7 +76,7 @@ impl Role {
     }
 }
 
-/// The snapshot that a volume with these segments is the record of, if it is a record.
+/// The snapshot of which a volume with these segments is the record, or `None` if the volume isn't a record.
 fn recorded(segments: &[Segment]) -> Option<Record>
     ensures { record_list result ≡ recorded segments.now }
 {
@@ -116,7 +116,7 @@ pub(crate) fn roles_of(alloc: Global, volumes: &[Volume]) -> Result<Vec<Role>, A
     Ok(roles)
 }
 
-/// The roles of all volumes before any snapshot is looked at: each is a record or plain.
+/// The roles of all volumes before any snapshot is added: each volume is a record or plain.
 fn first_roles(alloc: Global, volumes: &[Volume]) -> Result<Vec<Role>, AllocError>
     ensures { IfOk result (λ roles. roles.items ≡ roles_among [] volumes.now) }
 {
@@ -127,7 +127,7 @@ fn first_roles(alloc: Global, volumes: &[Volume]) -> Result<Vec<Role>, AllocErro
     Ok(roles)
 }
 
-/// The role of a volume before any snapshot is looked at: a record, or plain.
+/// The role of a volume before any snapshot is added: a record, or plain.
 fn first_role(volume: &Volume) -> Role
     ensures { result ≡ spec.unless_recorded (recorded volume.now.segments) roles.Plain }
 {
@@ -137,7 +137,7 @@ fn first_role(volume: &Volume) -> Role
     }
 }
 
-/// Updates the role of the origin of a snapshot, which is the volume at `position`.
+/// Updates the role of a snapshot's origin, the volume at `position`.
 fn add_origin(roles: &mut Vec<Role>, position: usize)
     ensures { roles.new.items ≡ changed with_origin position 0 roles.old.items }
 {
@@ -146,7 +146,7 @@ fn add_origin(roles: &mut Vec<Role>, position: usize)
     }
 }
 
-/// Updates the role of the store of a snapshot.
+/// Updates the role of a snapshot's store.
 fn add_store(roles: &mut Vec<Role>, snapshot: Record)
     ensures { roles.new.items ≡ changed (with_store snapshot) snapshot.store 0 roles.old.items }
 {
@@ -155,7 +155,7 @@ fn add_store(roles: &mut Vec<Role>, snapshot: Record)
     }
 }
 
-/// The role of the volume at a position; `Plain` past the end.
+/// The role of the volume at a position; `Plain` if there is no such position.
 pub(crate) fn role_at(roles: &[Role], position: usize) -> Role
     ensures { result ≡ role_at roles.now position }
 {
@@ -165,7 +165,7 @@ pub(crate) fn role_at(roles: &[Role], position: usize) -> Role
     }
 }
 
-/// The segments of the volume at a position; none past the end.
+/// The segments of the volume at a position; none if there is no such position.
 pub(crate) fn segments_at(volumes: &[Volume], position: usize) -> &[Segment]
     ensures { result.now ≡ segments_at volumes.now position }
 {
@@ -175,7 +175,7 @@ pub(crate) fn segments_at(volumes: &[Volume], position: usize) -> &[Segment]
     }
 }
 
-/// The key of the volume at a position; empty past the end.
+/// The key of the volume at a position; empty if there is no such position.
 pub(crate) fn name_at(volumes: &[Volume], position: usize) -> &str
     ensures { result.now ≡ name_at volumes.now position }
 {

@@ -1,7 +1,7 @@
-//! Segments of a logical volume as their sections describe them; they refer to other volumes by position.
+//! Segments of a logical volume as their sections describe them; a segment refers to volumes by their positions.
 //!
-//! Whether these references are valid is not checked here. A new type of segment is a variant of `SegmentType`, a
-//! word of the field `type`, and an arm where segments are checked and where they become lines.
+//! Whether the positions exist is not checked here. A new type of segment is a variant of `SegmentType`, a word of the
+//! field `type`, and an arm where segments are checked and where they become lines.
 
 ghost use Rattle.lvm_volume.specs.Prelude.{[], ℕ, List, MatchOption, IfOk, codes, map, result_err, scalar_view, scalar_views, field, field_faults, fields_faults, items_at, number_at, section_view, segment_fields, text_at, IsPlainStep, IsStep, at_key, later_fields, segments_faults, type_fields, named_type, type_text, segment_of, snapshot_in, striped_in, stripes_in, target_of};
 ghost use Rattle.std.specs.Prelude.{◌≡◌, ◌+◌, ◌∷◌};
@@ -18,8 +18,8 @@ use dm_table::{Listed, LoadFault};
 use lvm_text::{Scalar, Section};
 use std::alloc::{AllocError, Global};
 
-/// A stripe: the position of its physical volume in the group, and its first extent there. The position is the number
-/// of physical volumes if the stripe names none of them.
+/// A stripe: the position of its physical volume in the group, and its first extent on that volume. The position is the
+/// number of physical volumes if the stripe names none of them.
 #[derive(Clone, Copy, Debug)]
 pub(crate) struct Stripe {
     pub physical: usize,
@@ -29,8 +29,8 @@ pub(crate) struct Stripe {
 /// The stripes of a segment, in order.
 pub(crate) type Stripes = Listed<Stripe>;
 
-/// A segment's type, with the stripes or volumes that it refers to. A striped segment's `stripe_size` and a snapshot's
-/// `chunk_size` are in sectors.
+/// A segment's type, with the stripes or volumes that the segment refers to. The `stripe_size` of a striped segment and
+/// the `chunk_size` of a snapshot are in sectors.
 #[derive(Debug, Drop)]
 pub(crate) enum SegmentType {
     Zero,
@@ -48,7 +48,7 @@ pub(crate) enum SegmentType {
     },
 }
 
-/// A segment: its first extent in the volume, how many extents it has, and the line of its key.
+/// A segment: its first extent in the volume, the number of its extents, and the line of its key.
 #[derive(Debug, Drop)]
 pub(crate) struct Segment {
     pub start: u64,
@@ -58,7 +58,7 @@ pub(crate) struct Segment {
 }
 
 impl Segment {
-    /// The extent of the volume after the segment's last one.
+    /// The extent of the volume after the last one of the segment.
     pub(crate) fn end(&self) -> u128
         ensures { result ≡ self.now.start + self.now.count }
     {
@@ -69,7 +69,7 @@ impl Segment {
 /// The segments of a volume, in the order of their numbers.
 pub(crate) type Segments = Listed<Segment>;
 
-/// The stripes that a list of pairs describes. One pass, with one look-up per stripe.
+/// The stripes that a list of pairs describes. Makes one pass, with one look-up per stripe.
 fn stripes_of(
     alloc: Global,
     positions: &Positions<'_>,
@@ -92,7 +92,7 @@ fn stripes_of(
     Ok(stripes)
 }
 
-/// A pair of a string and an integer, if the two scalars are that.
+/// The string and the integer of a pair, or `None` if the two scalars aren't a string and an integer.
 fn pair<'a>(first: &Scalar<'a>, second: &Scalar<'a>) -> Option<(&'a str, u64)>
     ensures { MatchOption result
         ((keys : List (List ℕ)) (items : List tree.Scalar)
@@ -115,7 +115,7 @@ pub(crate) enum TypeName {
     Snapshot,
 }
 
-/// The type of segment that a word stands for.
+/// The type of segment that a word names; `None` if no supported type has this name.
 fn type_named(word: &str) -> Option<TypeName>
     ensures { result ≡ named_type word.now }
 {
@@ -132,7 +132,7 @@ fn type_named(word: &str) -> Option<TypeName>
     }
 }
 
-/// The type of a segment.
+/// The type of the segment in a section.
 fn type_at(segment: &Section<'_>) -> Result<TypeName, LoadFault>
     ensures step { IsPlainStep (at_key kinds.TypeWord (codes "type") segment.now) (result_err result) }
     ensures name { IfOk result (λ name. text_at (codes "type") segment.now ≡ type_text name) }
@@ -145,7 +145,7 @@ fn type_at(segment: &Section<'_>) -> Result<TypeName, LoadFault>
     }
 }
 
-/// Reads what comes after the type of a segment and depends on it.
+/// Reads the fields that follow the type of a segment and depend on the type.
 fn target_at(
     alloc: Global,
     reader: &mut FieldReader,
@@ -185,7 +185,7 @@ fn striped(
     })
 }
 
-/// Reads the stripes of a segment; `parts` is how many it must have.
+/// Reads the stripes of a segment, of which there must be `parts`.
 fn stripes_at(
     alloc: Global,
     reader: &mut FieldReader,
@@ -211,7 +211,7 @@ fn stripes_at(
     }
 }
 
-/// Reads the stripe size of a segment with `parts` stripes. A single stripe needs none, and 0 is used if there is none.
+/// Reads the stripe size of a segment with `parts` stripes; returns 0 for a single stripe without a stripe size.
 fn stripe_size_at(
     reader: &mut FieldReader,
     segment: &Section<'_>,
@@ -230,7 +230,7 @@ fn stripe_size_at(
     }
 }
 
-/// Reads a snapshot segment, which refers to its origin and its store by their keys.
+/// Reads a snapshot segment, which names its origin and its store by their keys.
 fn snapshot(
     reader: &mut FieldReader,
     positions: &Positions<'_>,

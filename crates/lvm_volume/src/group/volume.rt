@@ -94,7 +94,7 @@ fn head_of(reader: &mut FieldReader, volume: &Section<'_>) -> Result<VolumeHead,
     })
 }
 
-/// The sections of a volume's segments, from segment1 on. Stops at the first that is missing or is no section, so
+/// The sections of a volume's segments, from segment1 on. Stops at the first key that is missing or has no section, so
 /// that a large count in the text costs nothing.
 fn segment_sections<'s, 'a>(
     alloc: Global,
@@ -119,7 +119,7 @@ fn segment_sections<'s, 'a>(
     Ok(sections)
 }
 
-/// Replaces `key` with the key of segment number `i`, so that one string serves all segments.
+/// Replaces the text of `key` with the key of segment number `i`, so that one string serves all segments.
 fn put_segment_key(key: &mut String, i: u64) -> Result<(), AllocError>
     ensures { OnOk result (string_bytes key.new ≡ codes "segment" ++ decimal i) }
 {
@@ -127,8 +127,8 @@ fn put_segment_key(key: &mut String, i: u64) -> Result<(), AllocError>
     write!(key, "segment{i}")
 }
 
-/// Whether a volume with this status may be written. lvm2 can write the right as WRITE_LOCKED, in the status or in
-/// the flags, as it does for all volumes of a group with a system id.
+/// Whether a volume with this status may be written. lvm2 can write the permission as WRITE_LOCKED, among the status or
+/// the flags, as it does for all volumes of a group that has a system id.
 fn is_writable(status: &[Scalar<'_>], volume: &Section<'_>) -> bool
     requires { scalar_views status.now ≡ items_at (codes "status") volume.now }
     ensures { result ≡ is_writable volume.now }
@@ -138,7 +138,7 @@ fn is_writable(status: &[Scalar<'_>], volume: &Section<'_>) -> bool
         || lists(volume, "flags", "WRITE_LOCKED")
 }
 
-/// Whether the list under a key contains this string; false if the key is missing or has no list.
+/// Whether the list under a key contains this string; false if the key is missing or has other content.
 pub(crate) fn lists(section: &Section<'_>, key: &str, word: &str) -> bool
     ensures { result ≡ lists key.now word.now section.now }
 {

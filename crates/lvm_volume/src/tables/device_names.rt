@@ -1,7 +1,7 @@
-//! The names of devices: of logical volumes, and of the layers that origins and stores have.
+//! The names of devices: those of logical volumes, and those of the layers of origins and stores.
 //!
 //! All names are checked before any device is made, so that the first volume in the text without a valid name is
-//! refused, whichever lines refer to it.
+//! refused, no matter which lines refer to it.
 
 ghost use Rattle.lvm_volume.specs.Prelude.{[], None, Some, IfOk, result_err, flat_map, zip, first_of, Returns, built, fault_of, IsNamed, device_name, device_parts, layer_text, unnamed_layer, unnamed_volume};
 ghost use Rattle.std.specs.Prelude.{◌≡◌, ◌∷◌};
@@ -24,7 +24,7 @@ pub(crate) enum Layer {
 }
 
 impl Layer {
-    /// The word for the layer at the end of a device name.
+    /// The word for the layer, which ends its device name.
     fn text(self) -> &'static str
         ensures { result.now ≡ layer_text self }
     {
@@ -35,8 +35,7 @@ impl Layer {
     }
 }
 
-/// Fails at the first volume for which a device name can't be built, for itself or for its layer. Allocates
-/// nothing.
+/// Fails at the first volume for which, or for whose layer, a device name can't be built. Allocates nothing.
 pub(crate) fn check_names(group: &str, roles: &[Role], volumes: &[Volume]) -> Result<(), LoadFault>
     ensures { result_err result
         ≡ first_of (flat_map (unnamed_volume group.now) (zip roles.now volumes.now)) }
@@ -47,7 +46,7 @@ pub(crate) fn check_names(group: &str, roles: &[Role], volumes: &[Volume]) -> Re
     Ok(())
 }
 
-/// Fails if a device of this volume gets no name.
+/// Fails if a device name can't be built for this volume or for its layer.
 #[tactic(auto, unfolding(crate::specs::tables::Tables::unnamed_volume))]
 fn check_volume(group: &str, role: Role, volume: &Volume) -> Result<(), LoadFault>
     ensures { result_err result ≡ first_of (unnamed_volume group.now (role, volume.now)) }
@@ -79,7 +78,7 @@ fn check_device(group: &str, volume: &Volume, layer: Option<Layer>) -> Result<()
     Ok(())
 }
 
-/// Why no name can be built for a volume, or for a layer of it, if so.
+/// Why no name can be built for a volume, or for a layer of it; `None` if one can.
 fn device_name_fault(group: &str, volume: &str, layer: Option<Layer>) -> Option<NameFault>
     ensures { result ≡ fault_of (device_parts group.now volume.now layer) }
 {
@@ -89,7 +88,7 @@ fn device_name_fault(group: &str, volume: &str, layer: Option<Layer>) -> Option<
     }
 }
 
-/// The device name of a volume, or of a layer of it, whose parts are known to be valid.
+/// The device name of a volume, or of a layer of it; the parts of the name must be valid.
 pub(crate) fn name_of(
     alloc: Global,
     group: &str,
@@ -101,7 +100,7 @@ pub(crate) fn name_of(
 {
     match built_name(alloc, group, volume, layer) {
         Ok(name) => Ok(name),
-        // The parts are known to be valid, so only memory can have run out.
+        // The parts are valid, so the only fault can be that memory ran out.
         Err(_) => Err(AllocError),
     }
 }

@@ -1,8 +1,8 @@
-//! Makes the devices of logical volumes, by their roles.
+//! Makes the devices of logical volumes, depending on the roles of the volumes.
 //!
 //! A snapshot maps to a layer of its origin and a layer of its store, so that the visible volumes keep their names
-//! (lvm(8); what `dmsetup table` prints for a group with snapshots). A new role needs an arm in `add_devices`, and
-//! in `devices_by` and `layers_of` of `specs/tables/Tables.antt`.
+//! (lvm(8), and the output of `dmsetup table` for a group with snapshots). A new role needs an arm in `add_devices`,
+//! and in `devices_by` and `layers_of` of `specs/tables/Tables.antt`.
 
 ghost use Rattle.lvm_volume.specs.Prelude.{None, Some, IfOk, OnOk, AllByRecursion, flat_map, zip, Real, Cow, group_view, extents_of, name_at, segments_at, AreSegmentsIn, IsMadeIn, IsNamed, device_name, length_of, origin_line, over_device, own_device, snapshot_line};
 ghost use Rattle.lvm_volume.specs.tables.Tables.{devices_in};
@@ -18,7 +18,7 @@ use crate::tables::lines::lines_of;
 use dm_table::{DevRef, DeviceSpec, Line, Name, StoreKind, Table, Target};
 use std::alloc::{AllocError, Global};
 
-/// The group that devices are made from: its name, the extent size in sectors, its physical volumes and its logical
+/// The group from which devices are made: its name, the extent size in sectors, its physical volumes and its logical
 /// volumes.
 #[derive(Drop)]
 pub(crate) struct GroupRef<'g> {
@@ -28,7 +28,7 @@ pub(crate) struct GroupRef<'g> {
     pub volumes: &'g [Volume],
 }
 
-/// The devices of all volumes, in order, by their roles.
+/// The devices of all volumes, in order, given the roles of the volumes.
 pub(crate) fn devices_of(
     alloc: Global,
     group: &GroupRef<'_>,
@@ -86,7 +86,7 @@ fn volume_name(
     name_of(alloc, group.name, volume.name.as_str(), layer)
 }
 
-/// The device with the lines for a volume's segments: the volume itself, or its layer.
+/// The device with a line for each segment of a volume: the volume itself, or its layer.
 fn own_device(
     alloc: Global,
     group: &GroupRef<'_>,
@@ -112,7 +112,7 @@ fn own_device(
     })
 }
 
-/// The visible device of an origin, over its layer `real`.
+/// The visible device of an origin, which maps to the layer `real`.
 fn origin_device(
     alloc: Global,
     group: &GroupRef<'_>,
@@ -128,7 +128,7 @@ fn origin_device(
     over_device(alloc, group, volume, origin_line(group, volume, real))
 }
 
-/// The visible device of a snapshot, whose store is `volume`.
+/// The visible device of a snapshot; `volume` is its store.
 fn snapshot_device(
     alloc: Global,
     group: &GroupRef<'_>,
@@ -148,7 +148,7 @@ fn snapshot_device(
     over_device(alloc, group, volume, line)
 }
 
-/// The visible device of an origin or snapshot, with its one line.
+/// The visible device of an origin or snapshot, with its only line.
 fn over_device(
     alloc: Global,
     group: &GroupRef<'_>,
@@ -168,7 +168,7 @@ fn over_device(
     })
 }
 
-/// The line of an origin's visible device, over its layer `real`.
+/// The line of an origin's visible device, which maps to the layer `real`.
 fn origin_line(group: &GroupRef<'_>, volume: &Volume, real: Name) -> Line
     requires len { length_of (group_view group.now) volume.now.segments < 2 ^ 64 }
     requires name { real ≡ device_name group.now.name.now volume.now.name (Some Real) }
@@ -184,7 +184,7 @@ fn origin_line(group: &GroupRef<'_>, volume: &Volume, real: Name) -> Line
     }
 }
 
-/// The line of a snapshot whose store is `volume`: over the origin's layer `real` and the store's layer `cow`.
+/// The line of the snapshot whose store is `volume`; it maps to the origin's layer `real` and the store's layer `cow`.
 fn snapshot_line(
     alloc: Global,
     group: &GroupRef<'_>,

@@ -71,7 +71,7 @@ fn line_target(
     }
 }
 
-/// A linear target for a single column, else a striped one.
+/// A linear target for a single column, or else a striped target.
 fn columns_target(stripe_size: u64, mut columns: Vec<Column>) -> Target
     ensures { result ≡ columns_target stripe_size columns.items }
 {
@@ -106,7 +106,7 @@ fn columns_of(
     Ok(columns)
 }
 
-/// The column for a stripe: its disk, and the sector of it at which the stripe begins.
+/// The column for a stripe: its disk, and the sector of that disk at which the stripe begins.
 fn column_of(
     alloc: Global,
     extent_size: u64,

@@ -1,5 +1,5 @@
-//! Requests are parsed in the buffer, and in batches if the handler asks for them. No contract says so: without
-//! batches a handler would answer the same, only more slowly.
+//! Requests are parsed in the buffer, and in batches if the handler asks for batches. No contract says so, because a
+//! handler without batches gives the same answers, only more slowly.
 
 use super::*;
 use dm_stack::{DeviceId, Stack};
@@ -9,7 +9,7 @@ use dm_table::{InFault, Input, Request, parse_disks, parse_table};
 /// Devices with names of 1, 15 and 16 bytes.
 const TABLE: &str = "n: 0 8 zero\nfifteen_letters: 0 8 zero\nsixteen_letters_: 0 8 zero\n";
 
-/// Requests in their usual forms, and then some that are near the end.
+/// Requests of the usual forms, and then enough requests for some to be near the end of the buffer.
 const REQUESTS: &str =
     "R n 0 1\nW n 7 1\nR n 12345678 8\nW n 4294967296 1024\nR fifteen_letters 9 1048576\n\
     W fifteen_letters 1000000000000 16\nR sixteen_letters_ 0 8\nW sixteen_letters_ 99 128\n\
@@ -17,14 +17,14 @@ const REQUESTS: &str =
     R n 0 1\nR n 0 1\nR n 0 1\nR n 0 1\nR n 0 1\nR n 0 1\nR n 0 1\nR n 0 1\nR n 0 1\nR n 0 1\nR n 0 1\n\
     R n 0 1\nR n 0 1\nR n 0 1\nR n 0 1\nR n 0 1\nR n 0 1\nR n 0 1\nR n 0 1\nR n 0 1\nR n 0 1\nR n 0 1\n";
 
-/// How many requests `REQUESTS` has.
+/// How many requests `REQUESTS` contains.
 const ALL: u64 = 41;
 
-/// How many requests are parsed in the buffer: all but the first, before which nothing was read, and the last seven,
-/// after which the buffer holds fewer than 64 bytes.
+/// How many requests are parsed in the buffer: all but the first, because nothing was read before it, and the last
+/// seven, because fewer than 64 bytes are left in the buffer at each of them.
 const QUICK: u64 = ALL - 1 - 7;
 
-/// Counts the requests that are announced to it and those that it is handed, and how many it was ahead at most.
+/// Counts the requests that are announced to it and those handed to it, and the most that were announced ahead.
 #[derive(Drop)]
 struct Counts {
     told: u64,
@@ -92,7 +92,7 @@ fn requests_are_told_ahead(rt: HostRuntime) {
     let disks = parse_disks(alloc, b"").expect(&rt, "no disks");
     let stack = Stack::load(alloc, devices, disks).expect(&rt, "a stack");
     let mut requests = input(REQUESTS.as_bytes(), PLENTY, None);
-    // The first request is handed over without being announced; it counts as announced.
+    // The first request is handed over without being announced, but counts as announced.
     let mut counts = Counts {
         told: 1,
         handed: 0,

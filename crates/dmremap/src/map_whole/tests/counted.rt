@@ -1,7 +1,7 @@
-//! Readers and writers of std, counted: each call makes exactly one call of theirs, and none is repeated.
+//! `Counted` over readers and writers of std: each call makes one call of the reader or writer, and repeats none.
 //!
-//! A script says what each call of a fake returns, and the fake counts its calls. A row is a script and the expected
-//! results.
+//! A script says what each call of a fake reader or writer returns, and the fake counts its calls. A row contains a
+//! script and the expected results.
 
 ghost use Rattle.dmremap.specs.Prelude.{IfOk};
 ghost use Rattle.std.specs.Prelude.{◌≤◌};
@@ -10,14 +10,14 @@ use dm_table::{Counted, Input, Output, write_all};
 use std::cell::Cell;
 use std::io::{self, Error, ErrorKind, Read, Write};
 
-/// What a call of a fake returns: a count of bytes, or a fault.
+/// What a call of a fake returns: a number of bytes, or a fault.
 #[derive(Clone, Copy)]
 pub(super) enum Step {
     Moves(usize),
     Fails,
 }
 
-/// A reader or a writer that follows its script, and then moves nothing.
+/// A reader or writer whose calls do what its script says; calls after the end of the script move no bytes.
 #[derive(Drop)]
 pub(super) struct Fake<'a> {
     pub(super) script: &'a [Step],
@@ -25,7 +25,7 @@ pub(super) struct Fake<'a> {
 }
 
 impl<'a> Fake<'a> {
-    /// Counts a call with a slice of this length, and returns what the script says for it, at most `len` bytes.
+    /// Counts a call for a slice of `len` bytes, and returns what the script says for the call, at most `len` bytes.
     fn step(&self, len: usize) -> io::Result<usize>
         ensures { IfOk result (λ n. n ≤ len) }
     {
@@ -58,7 +58,7 @@ impl<'a> Write for Fake<'a> {
     }
 }
 
-/// What a call does, the expected results of a read and of a write, and whether a flush succeeds.
+/// What a call does, the expected results of a read and of a write, and whether a flush is to succeed.
 static CALLS: [(Step, Option<usize>, Option<usize>, bool); 4] = [
     (Step::Moves(4), Some(4), Some(4), true),
     (Step::Moves(1), Some(1), Some(1), true),
@@ -90,7 +90,7 @@ fn one_call_for_each_call(rt: HostRuntime) {
     }
 }
 
-/// What each write does, whether all four bytes are written, and after how many writes that is known.
+/// What each write does, whether all four bytes are written in the end, and how many writes are made.
 static WRITES: [(Step, Step, Step, bool, usize); 4] = [
     (Step::Moves(4), Step::Fails, Step::Fails, true, 1),
     (Step::Moves(1), Step::Moves(1), Step::Moves(2), true, 3),

@@ -1,7 +1,7 @@
-//! Devices written as texts: the exact bytes of table text and of the concise form, up to where an output fails.
+//! Devices written as texts: the exact bytes of table text and of the concise form, also if an output fails.
 //!
-//! No load accepts these texts, or they say more than is printed. The commands `table` and `concise` print all
-//! others, and are tested on the built program.
+//! A load refuses these texts, or they contain more than is printed. All other texts are tested on the built program,
+//! with the commands `table` and `concise`.
 
 ghost use Rattle.dmremap.specs.Prelude.{length};
 ghost use Rattle.std.specs.Prelude.{◌≤◌};
@@ -9,8 +9,8 @@ ghost use Rattle.std.specs.Prelude.{◌≤◌};
 use super::*;
 use dm_table::{DeviceSpec, parse_concise, parse_table, write_concise, write_table};
 
-/// A text in the concise form, then its devices as table text and in the concise form: with and without flags, with
-/// uuids and minor numbers, with spaces around lines, with each target, and with a name that occurs twice.
+/// A text in the concise form, then its devices as table text and in the concise form. The texts have devices with and
+/// without flags, uuids and minor numbers, spaces around lines, each target, and a name that occurs twice.
 static TEXTS: [(&str, &str, &str); 6] = [
     ("\n", "", "\n"),
     (
@@ -40,7 +40,7 @@ static TEXTS: [(&str, &str, &str); 6] = [
     ),
 ];
 
-/// Asserts that each device, and each of its lines, reports its number in the text as its place.
+/// Asserts that the place of each device, and of each of its lines, is its number in the text.
 fn check_places(rt: &impl Abort, devices: &[DeviceSpec]) {
     for (index, device) in devices.iter().enumerate() {
         let number = index as u64 + 1;
@@ -51,7 +51,7 @@ fn check_places(rt: &impl Abort, devices: &[DeviceSpec]) {
     }
 }
 
-/// Asserts how devices are written as table text to an output with this much room.
+/// Asserts the table text of devices, written to an output that has room for this many bytes.
 fn check_table(rt: &impl Abort, alloc: Global, devices: &[DeviceSpec], table: &[u8], room: usize)
     requires { room ≤ length table.now }
 {
@@ -61,7 +61,7 @@ fn check_table(rt: &impl Abort, alloc: Global, devices: &[DeviceSpec], table: &[
     assert_eq!(rt; output.as_slice(), &table[..room]);
 }
 
-/// Asserts how devices are written in the concise form to an output with this much room.
+/// Asserts the concise form of devices, written to an output that has room for this many bytes.
 fn check_concise(
     rt: &impl Abort,
     alloc: Global,

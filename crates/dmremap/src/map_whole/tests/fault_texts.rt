@@ -1,6 +1,6 @@
 //! The texts of faults, as `Display` writes them.
 //!
-//! They are for callers of the libraries; the program's messages have words of their own.
+//! The texts are for callers of the libraries; the program's messages are worded differently.
 
 use super::*;
 use dm_map::MapFault;
@@ -8,13 +8,13 @@ use dm_replay::ReplayFault;
 use dm_table::{CheckFault, InFault, LoadFault, LoadKind, OutFault, Part, Place, RequestFault};
 use std::fmt::Display;
 
-/// Asserts how `Display` writes a fault.
+/// Asserts the text that `Display` writes for a fault.
 fn check_text<T: Display>(rt: &impl Abort, alloc: Global, fault: &T, text: &str) {
     let written = format!(in alloc; "{fault}").expect(rt, "a text");
     assert_eq!(rt; written.as_str(), text);
 }
 
-/// A kind of load fault, its `Display` text, and the words of the message of a load refused with it.
+/// A kind of load fault, its `Display` text, and the words in the message of a load that is refused with this fault.
 static KINDS: [(LoadKind, &str, &str); 20] = [
     (LoadKind::Read, "read", "disks: read"),
     (LoadKind::Long, "long", "disks: long"),

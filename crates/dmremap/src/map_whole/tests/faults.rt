@@ -1,8 +1,7 @@
 //! Streams with short reads, short writes and faults: sources, disk lists, requests, outputs and messages.
 //!
-//! Reads and writes are cut in every way, and a stream fails after each of its bytes in turn. What was written before
-//! the fault is a prefix of what would have been written, and which fault is reported doesn't depend on where reads
-//! are cut.
+//! Reads and writes are cut in every way, and a stream fails after each of its bytes in turn. The output before the
+//! fault is a prefix of the output without the fault, and which fault is reported doesn't depend on how reads are cut.
 
 use super::*;
 
@@ -10,12 +9,12 @@ const READ_MESSAGE: &[u8] = b"dmremap: requests: read\n";
 
 const WRITE_MESSAGE: &[u8] = b"dmremap: output: write\n";
 
-/// The most bytes that a call moves, for each run of a case.
+/// The most bytes that a call moves; a case runs once for each of these numbers.
 static STEPS: [usize; 17] = [
     1, 2, 3, 4, 5, 6, 7, 8, 9, 10, 11, 12, 13, 14, 15, 16, PLENTY,
 ];
 
-/// A whole line, and a last line without its newline.
+/// A complete line, and a last line without a newline.
 const LINE_AND_REST: Case<'static> = Case {
     name: "a line and a rest",
     requests: b"R a 0 1\nR a 1 1",
@@ -52,7 +51,7 @@ const NO_REQUESTS: Case<'static> = Case {
     ..VOLUME
 };
 
-/// A snapshot with one chunk written, and with status lines asked for.
+/// A snapshot with one chunk written, for which status lines are asked.
 const WRITTEN: Case<'static> = Case {
     name: "a snapshot that is written",
     source: "s: 0 32 snapshot base cow P 8\n",
@@ -69,7 +68,7 @@ const FAILING_FLUSH: Streams = Streams {
     ..STEADY
 };
 
-/// Cases with several faults, each with the one that is reported, and cases where an output is not asked for anything.
+/// Cases with several faults, one of which is reported, and cases in which nothing is written to an output.
 static ROWS: [Case<'static>; 12] = [
     VOLUME,
     LINE_AND_REST,
@@ -116,7 +115,7 @@ static ROWS: [Case<'static>; 12] = [
         },
         ..BAD_REQUEST
     },
-    // A run without output can't fail at a write, and a refused load doesn't flush.
+    // A run without output can't fail at a write, and a refused load doesn't flush the output.
     Case {
         streams: Streams {
             output: Some(0),
@@ -131,7 +130,7 @@ static ROWS: [Case<'static>; 12] = [
         },
         ..REFUSED
     },
-    // Status lines: none after a read fault, and all of them if only the flush fails.
+    // Status lines: none after a read fault, but all of them if only the flush fails.
     Case {
         name: "a read fault before status lines",
         output: b"1 copy base 0 8 cow 16\n1 W cow 17 1\n",
@@ -169,8 +168,8 @@ enum Failing {
     Messages,
 }
 
-/// The cases whose stream fails after each of its bytes: both parts of a load, requests, answers, status lines after
-/// answers, and the message of each way for a run to end with one.
+/// The cases in which a stream fails after each of its bytes: both parts of a load, requests, answers, status lines
+/// after answers, and the messages, for each way in which a run can end with one.
 static FAILING: [(Case<'static>, Failing); 8] = [
     (VOLUME, Failing::Source),
     (VOLUME, Failing::Disks),
@@ -206,7 +205,7 @@ static FAILING: [(Case<'static>, Failing); 8] = [
     ),
 ];
 
-/// How many bytes this stream of a case has.
+/// How many bytes a case has in the stream that fails.
 fn length_of(case: &Case<'_>, failing: Failing) -> usize {
     match failing {
         Failing::Source => case.source.len(),
@@ -217,7 +216,7 @@ fn length_of(case: &Case<'_>, failing: Failing) -> usize {
     }
 }
 
-/// The expected results of a case whose stream fails after `count` bytes, at most as many as it has.
+/// The expected results of a case if this stream fails after `count` bytes; `count` is at most the stream's length.
 fn failed<'a>(case: Case<'a>, failing: Failing, count: usize) -> Case<'a> {
     match failing {
         Failing::Source => Case {
@@ -241,7 +240,7 @@ fn failed<'a>(case: Case<'a>, failing: Failing, count: usize) -> Case<'a> {
             ..case
         },
         Failing::Requests => Case {
-            // A line is answered only if all of it was read.
+            // A line is answered only if it was read to its end.
             output: if count < 8 { b"" } else { case.output },
             message: READ_MESSAGE,
             status: 4,
@@ -263,7 +262,7 @@ fn failed<'a>(case: Case<'a>, failing: Failing, count: usize) -> Case<'a> {
     }
 }
 
-/// The expected results of a case whose output takes `count` bytes, and fails if that is not all of it.
+/// The expected results of a case whose output has room for `count` bytes, and fails if the case writes more.
 fn written_up_to<'a>(case: Case<'a>, count: usize) -> Case<'a> {
     let streams = Streams {
         output: Some(count),
@@ -299,13 +298,13 @@ fn letters(alloc: Global, count: usize, end: &str) -> Result<String, AllocError>
     Ok(text)
 }
 
-/// After how many bytes a stream of this text fails: after all of them, if it fails.
+/// The number of bytes after which a stream of this text fails: all of them, or `None` if it doesn't fail.
 fn end_of(text: &str, fails: bool) -> Option<usize> {
     if fails { Some(text.len()) } else { None }
 }
 
-/// How many letters the source and the disk list have, each with whether reading fails after them, and the message. A
-/// single letter is a fault of syntax; 1,048,577 letters are too long.
+/// How many letters the source has, and whether reading fails at its end; both for the disk list; then the message.
+/// A single letter is a fault of syntax; 1,048,577 letters are too long.
 static PARTS: [(usize, bool, usize, bool, &[u8]); 10] = [
     (1, false, 0, true, b"dmremap: disks: read\n"),
     (1, false, 1_048_577, false, b"dmremap: disks: long\n"),
@@ -331,7 +330,7 @@ static PARTS: [(usize, bool, usize, bool, &[u8]); 10] = [
     (0, true, 0, true, b"dmremap: source: read\n"),
 ];
 
-/// Asserts the message for a source and a disk list, each of which may fail after its bytes.
+/// Asserts the message for a source and a disk list; reading either may fail after its last byte.
 fn check_parts<'a>(
     rt: &impl Abort,
     alloc: Global,
@@ -367,8 +366,8 @@ fn parts_are_read_before_any_text(rt: HostRuntime) {
     }
 }
 
-/// A line of letters: how many, with or without a newline, and whether reads fail after it; then the expected message
-/// and status.
+/// A line of letters: how many letters, what ends the line, and whether reading fails after the line; then the expected
+/// message and status.
 static LONG_LINES: [(usize, &str, bool, &[u8], u8); 8] = [
     (4096, "\n", false, b"dmremap: request 1: form\n", 3),
     (4097, "\n", false, b"dmremap: request 1: long\n", 3),
@@ -380,7 +379,7 @@ static LONG_LINES: [(usize, &str, bool, &[u8], u8); 8] = [
     (4097, "", true, b"dmremap: request 1: long\n", 3),
 ];
 
-/// Asserts the results of a line after which reads may fail, for several cuts of the line.
+/// Asserts the results for a line, after which reading may fail, with the line cut in several ways.
 fn check_line<'a>(
     rt: &impl Abort,
     alloc: Global,

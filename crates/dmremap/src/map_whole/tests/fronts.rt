@@ -1,12 +1,12 @@
-//! `device_at_front` finds a device by a name at the front of a text. No contract says that it finds any: otherwise a
-//! request is read more slowly, with the same answer.
+//! `device_at_front` finds a device by a name at the front of a text. No contract says that it finds one: if it
+//! doesn't, a request is parsed more slowly, with the same answer.
 
 use super::*;
 use dm_stack::Stack;
 use dm_table::{parse_disks, parse_table};
 
-/// Names of 1, 15, 16 and 127 bytes: the shortest and the longest of those compared as words, and of those compared
-/// byte by byte.
+/// Names of 1, 15, 16 and 127 bytes: the shortest and the longest that are compared as words, and the shortest and the
+/// longest that are compared byte by byte.
 static NAMES: [&str; 4] = [
     "n",
     "fifteen_letters",
@@ -15,14 +15,14 @@ static NAMES: [&str; 4] = [
         on_until_all_of_them_are_here",
 ];
 
-/// Names that collide eight at a time: their search starts at the same place, and finds at most eight there.
+/// Names that collide in eights: the search for eight of them starts at one place, which has room for eight.
 static MEETING: [&str; 40] = [
     "a3", "b81", "g14", "h36", "l35", "m57", "o0", "p51", "d83", "i16", "j38", "l10", "o59", "q9",
     "q31", "r53", "a64", "b86", "f85", "g19", "i5", "k18", "n12", "o34", "c66", "d88", "f60",
     "h87", "j3", "k81", "p14", "q36", "a2", "b71", "d98", "f70", "g92", "l25", "q46", "r68",
 ];
 
-/// What follows a name in a request. It is longer than the longest name.
+/// What follows a name in a request, and more requests; this text is longer than the longest name.
 const REST: &str =
     " 0 1\nR n 0 1\nR n 0 1\nR n 0 1\nR n 0 1\nR n 0 1\nR n 0 1\nR n 0 1\nR n 0 1\nR n 0 1\n\
     R n 0 1\nR n 0 1\nR n 0 1\nR n 0 1\nR n 0 1\nR n 0 1\nR n 0 1\nR n 0 1\nR n 0 1\n";

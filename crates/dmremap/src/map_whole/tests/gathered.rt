@@ -1,19 +1,19 @@
-//! Bytes gathered for a writer of std: when they are passed on, and what is left after a fault.
+//! Bytes gathered for a writer of std: when they are passed on, and which are left after a fault.
 //!
-//! A row says what each call of a fake does, and how many calls there were after the gathered bytes were passed on
-//! and after a flush.
+//! A row says what each call of a fake writer does, and how many calls were made once the gathered bytes were passed
+//! on, and after a flush.
 
 use super::counted::{Fake, Step};
 use dm_table::{Counted, Gathered, Output, write_all};
 use std::cell::Cell;
 
-/// What each call does, how many calls there were after the gathered bytes were passed on and after a flush, and
+/// What each call does, how many calls were made once the gathered bytes were passed on, how many after a flush, and
 /// whether the flush succeeds.
 static CALLS: [(Step, Step, Step, usize, usize, bool); 6] = [
     (Step::Moves(5), Step::Moves(0), Step::Fails, 1, 2, true),
     (Step::Moves(5), Step::Fails, Step::Moves(0), 1, 2, false),
     (Step::Moves(3), Step::Moves(2), Step::Moves(0), 2, 3, true),
-    // A fault while passing bytes on fails the flush, and nothing is tried again.
+    // If passing bytes on fails, the flush fails too, and no call is repeated.
     (Step::Moves(3), Step::Fails, Step::Moves(2), 2, 2, false),
     (Step::Moves(3), Step::Moves(0), Step::Moves(2), 2, 2, false),
     (Step::Fails, Step::Moves(5), Step::Moves(0), 1, 1, false),

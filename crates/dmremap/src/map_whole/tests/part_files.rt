@@ -1,19 +1,19 @@
-//! Files of a load that end or fail, and how often each is read. Missing and unreadable files are tested on the built
-//! program (`tests/outside`).
+//! Files of a load that end or fail, and how many reads are made of each. Missing and unreadable files are tested on
+//! the built program (`tests/outside`).
 
 use super::counted::{Fake, Step};
 use dm_table::{Counted, Part, read_part};
 use std::alloc::Global;
 use std::cell::Cell;
 
-/// How many bytes a part has whose file follows this script; None if reading it fails.
+/// How many bytes a part has if reads of its file return what the script says; `None` if reading the file fails.
 fn part_len(alloc: Global, script: &[Step], calls: &Cell<usize>) -> Option<usize> {
     let mut input = Counted::new(Fake { script, calls });
     let text = read_part(alloc, Part::Source, &mut input).ok()?;
     Some(text.len())
 }
 
-/// What each read of a file returns, how many bytes the part has, and after how many reads that is known.
+/// What each read of a file returns, how many bytes the part has, and how many reads are made in all.
 static READS: [(Step, Step, Step, Option<usize>, usize); 5] = [
     (Step::Moves(0), Step::Moves(4), Step::Fails, Some(0), 1),
     (Step::Moves(4), Step::Moves(0), Step::Moves(4), Some(4), 2),

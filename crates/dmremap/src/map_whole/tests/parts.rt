@@ -1,7 +1,7 @@
-//! The calls that the program consists of, with ample memory, and what each returns.
+//! The results of the calls that the program consists of, with ample memory.
 //!
-//! By its contract, any call that allocates may fail for lack of memory, so a body that always fails would meet every
-//! clause. These rows rule it out. Read-only devices are tested here because table text can't describe them.
+//! By its contract, a call that allocates may fail for lack of memory, so even a body that always fails would satisfy
+//! every clause. These tests rule that out. Read-only devices are tested here because table text can't describe them.
 
 ghost use Rattle.dmremap.specs.Prelude.{length, disk_len};
 ghost use Rattle.std.specs.Prelude.{◌≡◌, ◌<◌};
@@ -12,7 +12,7 @@ use dm_stack::{DiskId, Lower, ResolvedTarget, Stack};
 use dm_stream::{DiskTexts, Ending, Join, run};
 use dm_table::{CheckFault, DiskName, Name, parse_disks, parse_table};
 
-/// A text, whether it is the name of a device, and whether it is the name of a disk.
+/// A text, whether it is a valid device name, and whether it is a valid disk name.
 static NAMES: [(&str, bool, bool); 7] = [
     ("a.1:x", true, true),
     ("/dev/sda", false, true),
@@ -23,7 +23,7 @@ static NAMES: [(&str, bool, bool); 7] = [
     ("\u{e9}", false, false),
 ];
 
-/// Asserts whether a text is the name of a device.
+/// Asserts whether a text is a valid device name.
 fn check_name(rt: &impl Abort, alloc: Global, text: &str, is_name: bool) {
     match Name::new(alloc, text) {
         Ok(name) => assert!(rt; is_name && name.as_str() == text, "{text:?}"),
@@ -31,7 +31,7 @@ fn check_name(rt: &impl Abort, alloc: Global, text: &str, is_name: bool) {
     }
 }
 
-/// Asserts whether a text is the name of a disk.
+/// Asserts whether a text is a valid disk name.
 fn check_disk_name(rt: &impl Abort, alloc: Global, text: &str, is_name: bool) {
     match DiskName::new(alloc, text) {
         Ok(name) => assert!(rt; is_name && name.as_str() == text, "{text:?}"),
@@ -47,7 +47,7 @@ fn names(rt: HostRuntime) {
     }
 }
 
-/// A stack of the source's devices, the first of them read-only if `ro`, and of two disks of 64 sectors.
+/// A stack with the source's devices, the first of them read-only if `ro`, and with two disks of 64 sectors.
 fn stack_of(rt: &impl Abort, alloc: Global, source: &str, ro: bool) -> Stack {
     let mut devices = parse_table(alloc, source.as_bytes()).expect(rt, "devices");
     let disks = parse_disks(alloc, "sda 64\nsdb 64\n".as_bytes()).expect(rt, "disks");
@@ -59,7 +59,7 @@ fn stack_of(rt: &impl Abort, alloc: Global, source: &str, ro: bool) -> Stack {
 /// Two devices, the second on top of the first.
 const TWO_DEVICES: &str = "a: 0 8 linear sda 0\nb: 0 8 linear /dev/mapper/a 0\n";
 
-/// Asserts the counts of the two devices and the two disks.
+/// Asserts the counts of a stack with two devices, one on top of the other, and two disks.
 fn check_counts(rt: &impl Abort, stack: &Stack) {
     assert_eq!(rt; stack.device_count(), 2);
     assert_eq!(rt; stack.disk_count(), 2);
@@ -67,7 +67,7 @@ fn check_counts(rt: &impl Abort, stack: &Stack) {
     assert!(rt; stack.device("sda").is_none(), "a disk is no device");
 }
 
-/// Asserts what the stack says of a device of eight sectors.
+/// Asserts what the stack returns for a device of eight sectors.
 fn check_device(rt: &impl Abort, stack: &Stack, name: &str, is_ro: bool) {
     let device = stack.device(name).expect(rt, "a device");
     assert_eq!(rt; stack.is_ro(device), is_ro);
@@ -75,7 +75,7 @@ fn check_device(rt: &impl Abort, stack: &Stack, name: &str, is_ro: bool) {
     assert_eq!(rt; stack.name(device), name);
 }
 
-/// Asserts what a search in a device of one line finds, and what it costs.
+/// Asserts what a look-up in a device of one line finds, and how many searches and comparisons it makes.
 fn check_look(rt: &impl Abort, stack: &Stack, name: &str) {
     let device = stack.device(name).expect(rt, "a device");
     let mut looker = stack.looker();
@@ -115,7 +115,7 @@ fn check_found(rt: &impl Abort, stack: &Stack, sector: u64) {
     assert!(rt; looker.comparisons() <= 1, "few comparisons");
 }
 
-/// With the most lines, every bucket leaves at most two lines for a sector, even the last bucket.
+/// With the most lines, at most two lines are candidates for a sector in any bucket, even in the last one.
 #[test]
 fn buckets_of_the_most_lines(rt: HostRuntime) {
     let stack = most_lines(&rt, rt.alloc());
@@ -124,7 +124,7 @@ fn buckets_of_the_most_lines(rt: HostRuntime) {
     }
 }
 
-/// Runs requests over a stack, and asserts the output.
+/// Runs requests over a stack, and asserts what is written.
 fn check_run(rt: &impl Abort, alloc: Global, stack: &Stack, requests: &[u8], want: &[u8]) {
     let mut mapper = Mapper::<PlainTaken>::new(alloc, stack.looker()).expect(rt, "a mapper");
     let texts = DiskTexts::new(alloc, stack).expect(rt, "texts of disks");
@@ -153,7 +153,7 @@ fn a_read_only_device(rt: HostRuntime) {
     check_run(&rt, rt.alloc(), &stack, requests, want);
 }
 
-/// The disk, of 64 sectors, below the first line of a device.
+/// The disk, of 64 sectors, to which the first line of a device maps.
 fn disk_below(rt: &impl Abort, stack: &Stack, name: &str) -> DiskId
     ensures there { result < length stack.now.disks }
     ensures len { disk_len stack.now result ≡ 64 }
@@ -174,7 +174,7 @@ fn disk_below(rt: &impl Abort, stack: &Stack, name: &str) -> DiskId
     disk
 }
 
-/// A copy of eight sectors from a disk to another.
+/// A piece that copies eight sectors from one disk to another.
 fn copy(disk: DiskId, start: u64, to: DiskId, to_start: u64) -> Piece
     ensures { result ≡ Piece.Copy disk start 8 to to_start }
 {

@@ -1,10 +1,10 @@
 //! The command `replay` over inputs and outputs in memory with short reads, short writes and faults.
 //!
-//! The answers to requests, also from what exception stores hold, are tested on the built program (`tests/outside`).
+//! The answers to requests, also with exception stores, are tested on the built program (`tests/outside`).
 
 use super::*;
 
-/// How the output of a case fails: after this many bytes, or at its flushes.
+/// How the output of a case fails: after this many bytes, or at a flush.
 #[derive(Clone, Copy)]
 struct Failing {
     after: usize,
@@ -23,10 +23,10 @@ const FAILING_FLUSH: Failing = Failing {
     flush: true,
 };
 
-/// Tables, disks and requests; reading the requests fails after some bytes if a number is given.
+/// Tables, disks and requests, and the number of bytes after which reading the requests fails, if it fails.
 type Given<'a> = (&'a str, &'a str, &'a str, Option<usize>);
 
-/// Replays requests over streams that move a few bytes a call, and asserts the results.
+/// Replays requests over streams that move a few bytes a call, and asserts what is written and reported.
 fn check(
     rt: &impl Abort,
     alloc: Global,
@@ -101,7 +101,7 @@ static REPLAYS: [(Given<'static>, &str, &str, u8); 5] = [
         "dmremap: request 3: not top\n",
         3,
     ),
-    // Two claims that clash, and a load that is refused: nothing is written.
+    // Two claims that clash, and then a load that is refused: nothing is written.
     (
         (
             "a: 0 8 linear sda 0\nb: 0 8 linear sda 4\n",
