@@ -16,7 +16,7 @@ ranged values on start len first disk sector = if is_within on start len disk se
 abbrev pub HoldOn : Values → (disk start len : ℕ) → Value → Type 0
 HoldOn values disk start len first = (i : ℕ) → i < len → values disk (start + i) ≡ further first i
 
--- the first `range.len` of the `len` sectors hold the values of `range`; there is at least one
+-- the first `range.len` of the `len` sectors, at least one, have the values of `range`
 pub record AreFirst (values : Values) (disk start len : ℕ) (range : RangeValues) : Type 0 where
   pub some : 1 ≤ range.len
   pub most : range.len ≤ len

@@ -33,11 +33,11 @@ new_replay of = replay_from of (start_state of)
 abbrev pub whole_request : Request → (id : ℕ) → Asked
 whole_request request id = kept_request request id None
 
--- a request to the device whose name it contains, played to its end
+-- a request to the device with the name in the request, played to its end
 abbrev pub asked_request : Description → Request → Asked
 asked_request stack request = whole_request request (device_id stack request.device.now)
 
--- a request to the device whose name it contains, halted after `units` units
+-- a request to the device with the name in the request, halted after `units` units
 abbrev pub halted_request : Description → Request → (units : ℕ) → Asked
 halted_request stack request units = kept_request request (device_id stack request.device.now) (Some units)
 

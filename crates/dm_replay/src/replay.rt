@@ -123,8 +123,8 @@ impl<'s, T: Taken> Replay<'s, T> {
     ///
     /// Cost: that of mapping the request, and about `log n` steps for each stored range that is read, copied or
     /// overwritten, if there are `n` ranges; ranges that continue each other count as one. Memory: 40 bytes for each
-    /// range, and unused room in the map; 24 bytes for each write, or twice that while the list of writes grows. Reads
-    /// aren't kept.
+    /// range, and unused room in the map; 24 bytes for each write, twice that while their list grows; none for reads.
+    ///
     /// # Errors
     ///
     /// `NotTop` if no top device has the name, and `Stopped` if memory ran out at an earlier request; nothing changes.
@@ -175,8 +175,8 @@ impl<'s, T: Taken> Replay<'s, T> {
         if !self.tops[device.index()] {
             return Err(ReplayFault::NotTop);
         }
-        // Called for their contracts: top devices behave like disks of their own, and without errors under certain
-        // conditions.
+        // Called for their contracts: top devices behave like disks of their own and, if the stack can't lose anything,
+        // without errors.
         requests_are_alone::<Value>(self.stack);
         nothing_is_lost::<Value>(self.stack);
         // Marked as failed until the request is done, so that the replay has failed wherever memory runs out.

@@ -10,7 +10,7 @@ pub record Logged : Type 0 where
   pub paths : List ℕ
   pub given : List ℕ
 
--- how many bytes the paths of all these reads have; below, how many bytes the reads asked for
+-- how many bytes the paths of these reads have in total; for `given_total`, how many bytes the reads asked for
 unfoldable pub path_total : List Asked → ℕ
 path_total [] = 0
 path_total (first ∷ later) = first.path_len + path_total later

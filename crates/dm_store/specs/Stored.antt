@@ -78,7 +78,7 @@ ended sectors chunk count held = ended_by sectors chunk count (clear_count secto
 abbrev pub list_count : Sectors → Store → ℕ
 list_count sectors store = count_of (λ i. is_listed (pair sectors store.chunk i)) (pair_count store.chunk store.len)
 
--- what a list of `count` pairs holds: it fills all areas, or the pairs after it in its last area must be zero
+-- what a list of `count` pairs holds; the store is refused unless the list fills all areas or the later pairs in its last area are zero
 abbrev pub of_count : Sectors → Store → (count : ℕ) → Stored
 of_count sectors store count =
     if count == pair_count store.chunk store.len then of_list (list_fault store (pair sectors store.chunk) count) (old_chunks (pair sectors store.chunk) count)

@@ -25,7 +25,7 @@ pub enum ListFault {
 /// Why a store is refused.
 #[derive(Clone, Copy, Debug, PartialEq, Eq, Drop)]
 pub enum StoreFault {
-    /// The header can't be read, or a sector of the metadata areas that has a part of the list or its end.
+    /// The header, or a sector of a metadata area that the list fills or ends in, can't be read.
     Unread(SectorFault),
     /// The header isn't that of a store: its first number is neither the magic number nor 0.
     Magic,

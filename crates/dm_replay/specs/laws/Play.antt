@@ -9,7 +9,7 @@ use Rattle.dm_replay.specs.Runs.{flat}
 use Rattle.dm_replay.specs.Values.{Answer, Gives, Values, played_unit, unit_answers, played, played_answers}
 use Rattle.std.specs.Prelude.{◌≡◌, ◌∷◌, ◌++◌}
 
--- both give the same value to each sector of each disk
+-- each sector of each disk has the same value in `values` and in `others`
 abbrev pub AreSame : Values → Values → Type 0
 AreSame values others = (disk sector : ℕ) → values disk sector ≡ others disk sector
 

@@ -62,7 +62,7 @@ took_none held w = record {
   number = refl;
 }
 
--- if units are taken in two parts, the pieces settled by the first part and then those settled by the second are settled
+-- taking units in two parts settles the pieces that the first part settles, followed by those that the second part settles
 told_both : (hs bs cs us vs : List BlockUnit) (ps qs : List UnitRun) (rest : List BlockUnit)
     → ((rest : List BlockUnit) → fewest (hs ++ us ++ rest) ≡ ps ++ fewest (bs ++ rest)) → fewest (bs ++ vs ++ rest) ≡ qs ++ fewest (cs ++ rest)
     → fewest (hs ++ (us ++ vs) ++ rest) ≡ ps ++ qs ++ fewest (cs ++ rest)

@@ -1,4 +1,4 @@
--- How lines write a disk: by its name and a space, in lines of reads and writes with a letter before it.
+-- How lines write a disk: its name and a space; in lines of reads and writes, a letter and a space precede the name.
 use Rattle.dm_stream.specs.Base.{ℕ, Bool, true, false, List, [], get_or, length, take, code}
 use Rattle.std.specs.Prelude.{◌≡◌, ◌+◌, ◌∷◌, ◌++◌}
 

@@ -51,7 +51,7 @@ abbrev pub HoldsNoRange : Option Piece → Type 0
 HoldsNoRange None = Unit {0}
 HoldsNoRange (Some piece) = IsNoRange piece
 
--- this piece continues the held one; false if none is held
+-- whether this piece continues the held one; false if none is held
 abbrev pub goes_on : Option Piece → Piece → Bool
 goes_on None piece = false
 goes_on (Some held) piece = pieces.is_after (first_unit held) (piece_len held) (first_unit piece)
@@ -66,7 +66,7 @@ abbrev pub held_diskless : Option Piece → ℕ
 held_diskless None = 0
 held_diskless (Some piece) = diskless_len piece
 
--- the held piece is not empty and lies on the stack's disks and, if it has no disk, its length fits into 64 bits
+-- the held piece, if there is one, is not empty and lies on the stack's disks; the length of a piece without a disk fits into 64 bits
 abbrev pub IsHeld : Description → Option Piece → Type 0
 IsHeld stack None = Unit {0}
 IsHeld stack (Some piece) = (1 ≤ piece_len piece) × IsOnDisks stack piece × (diskless_len piece < 2 ^ 64)

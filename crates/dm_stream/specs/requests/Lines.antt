@@ -17,7 +17,7 @@ pub data Answer : Type 0 where
   AFault : Answer
   Waits : Answer
 
--- what comes next after the last newline: it depends on whether the input ended, failed or is still open
+-- what comes next after the last newline, depending on whether the input ended, failed or is still open
 abbrev pub rest_answer : Stand → List ℕ → Answer
 rest_answer Clean [] = AnEnd
 rest_answer Clean (byte ∷ bytes) = AnUnended

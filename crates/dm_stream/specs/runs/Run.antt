@@ -22,14 +22,14 @@ pub record CanMap (of : Description) (mapper : MapperView) : Type 0 where
   pub stack : mapper.stack ≡ of
   pub going : mapper.failed ≡ false
 
--- the state of a run's mapper and requests after it ended with `e`
+-- how a run that ended with `e` leaves its mapper and its requests
 pub record IsLeft (mapper_old mapper_new : MapperView) (requests_old requests_new : InputPast) (e : Ending) : Type 0 where
   -- the mapper still belongs to the same stack, and can map more requests unless the output failed
   pub stack : mapper_new.stack ≡ mapper_old.stack
   pub going : e ≢ WriteFault → mapper_new.failed ≡ false
   -- requests are not read again after their end or after a fault
   pub reads : IsReadOn requests_old requests_new
-  -- a read failed if the run ends with a read fault, and none if it is done. At a bad line no read failed, and the end was met only if the line is unterminated
+  -- a read failed if the run ended with a read fault, but not if it ended with `Done`. At a bad line no read failed, and the end was met only if the line is unterminated
   pub met : HasMet e requests_old requests_new
 
 -- what was done before the flush: the whole outcome or, if a write failed, only a proper prefix of its output

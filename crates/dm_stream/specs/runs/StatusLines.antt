@@ -9,7 +9,7 @@ abbrev pub usage_text : Usage → List ℕ
 usage_text usage =
     if usage.valid then decimal usage.allocated ++ code "/" ∷ decimal usage.total ++ code " " ∷ decimal usage.metadata else codes "Invalid"
 
--- the part of a snapshot's status line after the device's name: its table is one line from sector 0, with this length
+-- the part of a status line after the device's name; the snapshot's table is one line, from sector 0 and with this length
 abbrev pub after_name : (len : ℕ) → Usage → List ℕ
 after_name len usage = codes ": 0 " ++ decimal len ++ codes " snapshot " ++ usage_text usage ++ code "\n" ∷ []
 

@@ -1,7 +1,7 @@
 //! Joins: sinks that join pieces and write them as lines.
 //!
-//! A join holds one piece as long as others continue it, so a request needs no more memory if it is longer. The
-//! contracts describe what a join took in whole pieces, whatever units follow. Keep it so when you change them.
+//! A join holds one piece as long as others continue it, so a longer request needs no more memory. The contracts
+//! describe what a join took in whole pieces, whatever units follow. Keep it so when you change them.
 
 ghost use Rattle.dm_stream.specs.Prelude.{ℕ, List, None, Some, Description, LiesOnDisk, BlockUnit, IsOnDisk, disk_unit, units_in, units_of, HasWrittenTo, IsSameReference, Wrote, IsHeld, held_diskless, held_units, piece_of, join_past, AreFewest, fewest, pieces_text, join_lawful};
 ghost use Rattle.dm_stack.specs.declared.id.Lower.TheVariants.{Disk};
@@ -63,7 +63,7 @@ impl<'s, W: Output> Join<'s, W> {
         ensures nothing { self.new.held
             ≡ record { stack = self.old.held.stack; number = self.old.held.number; piece = None } }
         ensures same_reference { IsSameReference self.old.writer self.new.writer }
-        // `fewest` returns the only pieces of the units of which none continues the one before; no others are fewer.
+        // No piece of `fewest units` continues the one before. No other pieces have that property, and none are fewer.
         ensures fewest { (units : List BlockUnit) → AreFewest units (fewest units) }
     {
         self.held.write(&mut *self.writer)

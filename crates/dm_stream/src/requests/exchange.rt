@@ -1,8 +1,8 @@
 //! When requests may be read while their answers are written to an output.
 //!
 //! Whoever sends requests may wait for an answer before sending the next one. So requests must not be read while the
-//! output still buffers an answer: `read` requires that it has passed all on. Code that is generic over the requests
-//! can only read them through this trait.
+//! output still buffers an answer: `read` requires that the output has passed on all of them. Code that is generic
+//! over the requests can only read them through this trait.
 
 ghost use Rattle.dm_stream.specs.Base.{length, IfOk, InputPast, after_read};
 ghost use Rattle.std.specs.Prelude.{◌≡◌, ◌≤◌};

@@ -46,7 +46,7 @@ fn request_of(line: &[u8], number: u64) -> Result<Request<'_>, RequestWord>
     }
 }
 
-/// Tells the handler that the next read may block, unless a newline is already held.
+/// Tells the handler that the next read may block, unless a newline is already buffered.
 fn before_read<Q, H: HandlesFrom<Q>>(handler: &mut H, lines: &Lines)
     ensures answered { (stack : Description) (source : H.Source)
         → H.answered stack handler.old source [] handler.new source }

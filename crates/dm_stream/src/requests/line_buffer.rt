@@ -1,6 +1,6 @@
 //! The buffer that holds lines: finding the end of a line, making room, and reading. These functions work on a slice
 //! and two offsets, so `lines` deals only with the held bytes as a value. Held bytes are moved only if there is too
-//! little room behind them; in a buffer full of short lines they stay.
+//! little room behind them; in a buffer full of short lines they stay where they are.
 ghost use Rattle.dm_stream.specs.Prelude.{[], length, take, drop, slice_range, IfOk, MatchOption, given, parts_at, HasRead, code};
 ghost use Rattle.std.specs.Prelude.{◌≡◌, ◌+◌, ◌-◌, ◌<◌, ◌≤◌, ◌∷◌};
 

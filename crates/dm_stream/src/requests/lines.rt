@@ -10,7 +10,7 @@ use crate::requests::line_buffer::{line_len, make_room, read_after};
 use dm_table::{InFault, Input};
 use std::marker::Model;
 
-/// The most bytes in a line, without its newline.
+/// The most bytes in a line, not counting its newline.
 pub const MOST_LINE_BYTES: usize = 4096;
 
 /// The size of the buffer in bytes.

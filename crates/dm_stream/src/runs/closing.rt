@@ -10,7 +10,7 @@ use crate::runs::message::{message_of, tell};
 use dm_table::{OutFault, Output, close};
 
 /// Closes an output: flushes it, unless a write to it failed. Then writes a message: `message` or, if a write or the
-/// flush failed, that of a failed output.
+/// flush failed, the message for a failed output.
 ///
 /// # Errors
 ///
@@ -21,7 +21,7 @@ pub fn close_and_tell<W: Output, M: Output>(
     output: &mut W,
     messages: &mut M,
 ) -> Result<(), OutFault>
-    // `start` may be any earlier past of the output, from which `text` was written to it.
+    // `start` is any earlier past of the output, and `text` is what was written since.
     ensures closed { (start : OutputPast) (text : List ℕ) → Wrote start (W.past output.old) written text
         → IsClosedAfter start (W.past output.new) (IsErr result) text }
     // If a write failed, the output is neither written to nor flushed again.

@@ -6,7 +6,7 @@
 /// What is wrong with a request: the first fault that the checks find.
 #[derive(Clone, Copy, Debug, PartialEq, Eq)]
 pub enum RequestWord {
-    /// The line is longer than 4,096 bytes, without its newline.
+    /// The line is longer than 4,096 bytes, not counting its newline.
     Long,
     /// The input ended cleanly, but its last line has no newline.
     Unended,

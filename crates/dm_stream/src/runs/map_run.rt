@@ -71,7 +71,7 @@ fn write_rest<T: Taken, W: Output>(
     requires { mapper.old.stack ≡ stack.now }
     ensures same { mapper.new ≡ with_looked mapper.old mapper.new.looked }
     ensures no_fault { OnOk result (ending ≢ Ending.WriteFault) }
-    // `start` may be any earlier past of the output, from which the answers were written to it.
+    // `start` is any earlier past of the output, and the answers are what was written since.
     ensures wrote { (start : OutputPast) (outcome : Outcome)
         → HasWritten start (W.past output.old) (write_faults ending)
         → IsMapped outcome (written_since start (W.past output.old)) mapper.old.state ending
