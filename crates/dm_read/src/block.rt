@@ -9,7 +9,7 @@ use dm_map::{Mapper, Taken};
 use dm_stack::DeviceId;
 use dm_store::{DiskImages, Images};
 
-/// The most sectors in a block.
+/// The maximum number of sectors in a block.
 pub(crate) const BLOCK_SECTORS: u64 = 128;
 
 /// Reads `count` sectors of a device, from `sector` on, into the front of a block, up to the first that has no bytes.

@@ -22,7 +22,7 @@ pub(crate) struct Playing {
 }
 
 impl Playing {
-    /// Adds a run to the answers: that of the request's next sectors.
+    /// Adds a run, which answers the next sectors of the request.
     ///
     /// # Errors
     ///

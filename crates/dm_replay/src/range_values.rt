@@ -15,7 +15,7 @@ pub(crate) struct RangeValues {
 }
 
 impl RangeValues {
-    /// At most `len` sectors of this range, without the first `past` sectors.
+    /// At most `len` sectors of this range, starting after its first `past` sectors.
     pub(crate) fn rest(&self, past: u64, len: u64) -> RangeValues
         requires some { 1 ≤ len }
         requires there { past < self.now.len }

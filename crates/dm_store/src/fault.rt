@@ -39,7 +39,7 @@ pub enum StoreFault {
     Listed(ListFault),
 }
 
-/// Reports that a store is refused: that of which snapshot, and why.
+/// The snapshot whose store is refused, and why the store is refused.
 #[derive(Clone, Copy, Debug, PartialEq, Eq, Drop)]
 pub struct StoreRefusal {
     pub snapshot: DeviceId,

@@ -11,7 +11,7 @@ ghost use Rattle.std.specs.Prelude.{◌≡◌, ◌<◌, ◌≤◌, ◌%◌, ◌^
 use dm_table::FileExtent;
 pub use dm_table::{MOST_BYTES, ReadFault, SECTOR};
 
-/// Reads images. Each image has a line in a list and a path.
+/// Reads images, each of which is identified by its line in a list and its path.
 pub trait Images {
     /// The contents of all images agree with the reads so far. Before the first read, all contents do, or only the
     /// actual ones if these are known; whoever makes the value ensures that.

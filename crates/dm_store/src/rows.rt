@@ -17,7 +17,7 @@ use crate::store::Store;
 use dm_map::{HomeStretch, Mapper, Taken};
 use dm_stack::DiskId;
 
-/// The most rows in a block.
+/// The maximum number of rows in a block.
 const MOST_ROWS: u64 = 128;
 
 /// Reads `count` consecutive sectors of a disk into the front of a block.

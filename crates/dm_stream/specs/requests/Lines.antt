@@ -30,7 +30,7 @@ next_answer stand [] = Waits
 next_answer stand (rest ∷ []) = if nat_lt MOST_LINE_BYTES (length rest) then ALong else rest_answer stand rest
 next_answer stand (line ∷ part ∷ parts) = if nat_lt MOST_LINE_BYTES (length line) then ALong else ALine line
 
--- the value of type `Next` as an `Answer`
+-- a `Next` of the code as an `Answer`
 abbrev pub answer_of : next.Next → Answer
 answer_of (next.TheVariants.Line line) = ALine line.now
 answer_of next.TheVariants.End = AnEnd

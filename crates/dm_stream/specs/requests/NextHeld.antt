@@ -4,7 +4,7 @@ use Rattle.dm_stream.specs.declared.requests.lines.TheConstants.{MOST_LINE_BYTES
 use Rattle.dm_stream.specs.declared.requests.lines.NextHeld as found
 use Rattle.std.specs.Prelude.{◌≡◌, ◌<◌, ◌≤◌, ◌∷◌}
 
--- the value of type `NextHeld` as an `Answer`, with the line taken from the held bytes
+-- a `NextHeld` of the code as an `Answer`, with the line taken from the held bytes
 abbrev pub held_answer : found.NextHeld → List ℕ → Answer
 held_answer (found.TheVariants.Line n) held = ALine (take n held)
 held_answer found.TheVariants.End held = AnEnd

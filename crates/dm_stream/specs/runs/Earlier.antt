@@ -23,7 +23,7 @@ abbrev pub refused_ending : EarlierFault → Ending
 refused_ending (faults.BadRequest number w) = BadRequest number w
 refused_ending faults.Read = ReadFault
 
--- the ending of earlier requests: `Done` if they were played, or else that of the fault
+-- the ending of earlier requests: `Done` if all were played, or else the ending for the fault
 abbrev pub played_ending : Result (Unit {0}) EarlierFault → Ending
 played_ending (Ok done) = Done
 played_ending (Err fault) = refused_ending fault

@@ -123,8 +123,8 @@ impl<'a> Text for CopyLine<'a> {
     }
 }
 
-/// Makes a writer put the line of a read or write of a range. `text` is that of this range, or empty. Fails if the
-/// writer fails.
+/// Makes a writer put the line of a read or write of a range. The text kept in `text`, if any, must be that of the same
+/// range. Fails if the writer fails.
 #[inline(always)]
 pub(crate) fn put_range<W: Output>(
     writer: &mut W,

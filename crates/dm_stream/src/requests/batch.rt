@@ -17,7 +17,7 @@ use crate::requests::handler::Handler;
 use arrayvec::ArrayVec;
 use dm_stack::Stack;
 
-/// The most requests in a batch.
+/// The maximum number of requests in a batch.
 pub(crate) const MOST_FRONTS: usize = 16;
 
 /// How many requests were answered, and how many bytes their lines have, newlines included.

@@ -14,7 +14,7 @@ use crate::runs::ending::{Ending, RequestWord};
 use dm_stack::Stack;
 use dm_table::{Request, RequestFault, parse_request};
 
-/// The most requests in a run.
+/// The maximum number of requests in a run.
 pub const MOST_REQUESTS: u64 = 1_000_000_000_000;
 
 /// The word that reports why a line isn't a request.
@@ -97,7 +97,7 @@ pub fn handle_requests<Q, H: HandlesFrom<Q>>(
     ensures moved { IsReadOn (H.asked requests.old) (H.asked requests.new) }
     // If reading met neither a fault nor the end, nothing was read after the bad line.
     ensures met { IfOk result (λ ending. HasMet ending (H.asked requests.old) (H.asked requests.new)) }
-    // All delivered requests were answered, and the ending is theirs.
+    // All delivered requests were answered, and `ending` is how these requests end.
     ensures answered { IfOk result
         (λ ending. H.answered stack.now handler.old source.old
         (requests_of (delivery (H.asked requests.old) (H.asked requests.new))).all handler.new source.new) }

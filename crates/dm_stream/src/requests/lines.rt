@@ -10,7 +10,7 @@ use crate::requests::line_buffer::{line_len, make_room, read_after};
 use dm_table::{InFault, Input};
 use std::marker::Model;
 
-/// The most bytes in a line, not counting its newline.
+/// The maximum length of a line in bytes, not counting its newline.
 pub const MOST_LINE_BYTES: usize = 4096;
 
 /// The size of the buffer in bytes.
@@ -25,7 +25,7 @@ pub enum Next<'a> {
     End,
     /// The input ended cleanly after bytes without a newline.
     Unended,
-    /// More than 4,096 bytes before the next newline, or without one so far.
+    /// A line of more than 4,096 bytes, even if its newline hasn't been read yet.
     Long,
     /// The input failed before the next line was complete.
     ReadFault,

@@ -10,7 +10,7 @@ pub enum RequestWord {
     Long,
     /// The input ended cleanly, but its last line has no newline.
     Unended,
-    /// The line's number exceeds the most requests of a run.
+    /// The line's number exceeds the maximum number of requests in a run.
     Many,
     /// The line doesn't consist of the four fields of a request.
     Form,
