@@ -9,10 +9,10 @@ use dm_map::{Mapper, Taken};
 use dm_stack::DeviceId;
 use dm_store::{DiskImages, Images};
 
-/// The most sectors of a block.
+/// The maximum number of sectors in a block.
 pub(crate) const BLOCK_SECTORS: u64 = 128;
 
-/// Reads `count` sectors of a device to the front of a block, up to the first that has no bytes.
+/// Reads `count` sectors of a device, from `sector` on, into the front of a block, up to the first that has no bytes.
 pub(crate) fn fill_block<I: Images, T: Taken>(
     images: &mut I,
     places: &DiskImages,

@@ -1,4 +1,4 @@
-//! Why a sector of a device has no bytes.
+//! Reasons why a sector of a device has no bytes.
 
 use dm_store::SectorFault;
 
@@ -7,11 +7,11 @@ use dm_store::SectorFault;
 pub enum ByteFault {
     /// The sector maps to an error, or to a snapshot that is lost.
     Error,
-    /// The sector of a disk that this sector maps to can't be read.
+    /// The sector maps to a sector of a disk that can't be read.
     Unread(SectorFault),
 }
 
-/// A sector of a device that has no bytes, and why.
+/// A sector of a device that has no bytes, and the reason.
 #[derive(Clone, Copy, Debug, PartialEq, Eq, Drop)]
 pub struct Stop {
     pub sector: u64,

@@ -1,7 +1,7 @@
-//! The bytes of devices, read from images of disks.
+//! Reads the bytes of devices from images of disks.
 //!
-//! `specs/Bytes.antt` defines the bytes of a device's sector, given what its read maps to and what disks hold, and
-//! those of consecutive sectors. `write_sectors` writes them.
+//! `specs/Bytes.antt` defines the bytes of one sector of a device, given what a read maps to and what disks contain,
+//! and the bytes of consecutive sectors. `write_sectors` writes these bytes to an output.
 #![tactic(auto)]
 
 mod block;

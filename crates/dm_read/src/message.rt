@@ -1,4 +1,4 @@
-//! The message about a sector that has no bytes: one line.
+//! The message for a sector that has no bytes, which is one line.
 
 ghost use Rattle.dm_read.specs.Prelude.{length, fault_word, stop_message};
 ghost use Rattle.std.specs.Prelude.{◌≡◌, ◌≤◌};
@@ -8,11 +8,11 @@ use arrayvec::ArrayVec;
 use dm_store::SectorFault;
 use dm_table::{append, append_number};
 
-/// The message about a sector that has no bytes, with its newline.
+/// The message for a sector that has no bytes, including the newline.
 pub type StopMessage = ArrayVec<u8, 64>;
 
 impl ByteFault {
-    /// The word of the message for this fault.
+    /// The word for this fault in messages.
     fn word(self) -> &'static str
         ensures word { result.now ≡ fault_word self }
         ensures short { length result.now ≤ 7 }
@@ -26,7 +26,7 @@ impl ByteFault {
 }
 
 impl Stop {
-    /// The message: a line with the fault's word and the device's sector. Allocates nothing.
+    /// The message: a line with the word for the fault and the number of the device's sector. Allocates nothing.
     pub fn message(self) -> StopMessage
         ensures { result.items ≡ stop_message self }
     {

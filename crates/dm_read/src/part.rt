@@ -1,4 +1,4 @@
-//! Parts of a block: consecutive sectors that are read from one ground.
+//! Parts of a block: consecutive sectors that are read from a single ground (a disk, zeros or errors).
 
 ghost use Rattle.dm_read.specs.Prelude.{ℕ, Err, Ok, IfErr, OnOk, length, replicate, ReadOf, IsGroundNear, unit_at, Contents, disk_contents, sector_in, unit_bytes, zeros, AreCounted, AreFilled, AreKept};
 ghost use Rattle.std.specs.Prelude.{◌≡◌, ◌+◌, ◌*◌, ◌<◌, ◌≤◌, ◌^◌};
@@ -9,7 +9,7 @@ use dm_map::Ground;
 use dm_stack::DiskId;
 use dm_store::{DiskImages, Images, SECTOR, SectorFault};
 
-/// Reads `count` sectors of a disk into a block, from its sector `at` on.
+/// Reads `count` sectors of a disk, from `start` on, into a block, from the block's sector `at` on.
 fn read_at<I: Images>(
     images: &mut I,
     places: &DiskImages,
@@ -35,7 +35,7 @@ fn read_at<I: Images>(
     places.read(images, disk, start, &mut block[from..end])
 }
 
-/// Fills `count` sectors of a block with zeros, from its sector `at` on.
+/// Fills `count` sectors of a block with zeros, from the block's sector `at` on.
 fn clear_at(block: &mut [u8], at: u64, count: u64)
     requires room { 512 * (at + count) ≤ length block.old }
     requires small { at + count ≤ 128 }
@@ -47,14 +47,14 @@ fn clear_at(block: &mut [u8], at: u64, count: u64)
     clear(&mut block[from..end]);
 }
 
-/// Fills bytes with zeros.
+/// Fills a slice with zeros.
 fn clear(bytes: &mut [u8])
     ensures { bytes.new ≡ replicate (length bytes.old) 0 }
 {
     bytes.fill(0);
 }
 
-/// Reads sectors of a disk one by one into a block, up to the first that can't be read.
+/// Reads `count` sectors of a disk one by one into a block, up to the first that can't be read.
 fn read_one_by_one<I: Images>(
     images: &mut I,
     places: &DiskImages,
@@ -89,7 +89,7 @@ fn read_one_by_one<I: Images>(
     Filled { count, fault: None }
 }
 
-/// Reads sectors of a disk into a block all at once, or one by one if that fails.
+/// Reads `count` sectors of a disk into a block, all at once or, if that fails, one by one.
 fn read_disk<I: Images>(
     images: &mut I,
     places: &DiskImages,
@@ -116,7 +116,7 @@ fn read_disk<I: Images>(
     }
 }
 
-/// Reads sectors of one ground (a disk, zeros or errors) into a block, from its sector `at` on.
+/// Reads `count` sectors of one ground (a disk, zeros or errors) into a block, from the block's sector `at` on.
 pub(crate) fn read_ground<I: Images>(
     images: &mut I,
     places: &DiskImages,

@@ -1,4 +1,4 @@
-//! Consecutive sectors of a device, written to an output block by block.
+//! Writes consecutive sectors of a device to an output, block by block.
 
 ghost use Rattle.dm_read.specs.Prelude.{length, with_looked, device_len, Contents, disk_contents, fault_of, written_since, HasWritten, IsWritten, bytes_of, device_bytes};
 ghost use Rattle.std.specs.Prelude.{◌≡◌, ◌+◌, ◌<◌, ◌≤◌, ◌^◌};
@@ -13,17 +13,17 @@ use dm_stack::DeviceId;
 use dm_store::{DiskImages, Images, MOST_BYTES, SECTOR};
 use dm_table::{OutFault, Output, write_all};
 
-/// Writes the bytes of consecutive sectors of a device, in the state of the mapper, from the images that hold its
-/// stack's disks: all of them, or those before the first sector that has no bytes, which is returned then. Doesn't
-/// flush the output.
+/// Writes the bytes of the `len` sectors of a device from `start` on, which are read from the images of its stack's
+/// disks, in the state of the mapper. If a sector has no bytes, writes only those before it, and returns that sector
+/// and the reason. Doesn't flush the output.
 ///
-/// The images are read in blocks of at most 64 KiB, and sector by sector if a block can't be read. Allocates nothing.
-/// Cost: for each run of sectors that map alike, one look-up in each device on the way, and one read for each run and
-/// block; for each block one write, or as many as the output takes.
+/// The images are read in blocks of at most 64 KiB, and sector by sector where a block can't be read. Allocates
+/// nothing. Cost: for each run of sectors that map alike, one look-up in each device on the way and one read for each
+/// block; for each block, one write, or as many as the output needs.
 ///
 /// # Errors
 ///
-/// The output failed: a proper prefix of the bytes was written.
+/// The output failed; only a proper prefix of the bytes was written.
 pub fn write_sectors<I: Images, T: Taken, W: Output>(
     images: &mut I,
     places: &DiskImages,
@@ -36,11 +36,11 @@ pub fn write_sectors<I: Images, T: Taken, W: Output>(
     requires device { device < length mapper.old.stack.devices }
     requires inside { start + len ≤ device_len mapper.old.stack device }
     requires near { start + len ≤ 2 ^ 50 }
-    // For any contents of the images that agree with all reads of them: the bytes that they determine were written.
+    // `held` may be any contents of the images that agree with all reads; the bytes that they determine were written.
     ensures wrote { (held : Contents) → I.IsSeen images.new held → IsWritten
         (bytes_of (device_bytes mapper.old.stack mapper.old.state (disk_contents places.now held) device) start len)
         (written_since (W.past output.old) (W.past output.new)) result }
-    // The output only grew, and a write failed only if the result says so.
+    // The output only grew, and a write failed only if the result is an error.
     ensures moved { HasWritten (W.past output.old) (W.past output.new) (fault_of result) }
     ensures still { (held : Contents) → I.IsSeen images.new held → I.IsSeen images.old held }
     ensures same { mapper.new ≡ with_looked mapper.old mapper.new.looked }

@@ -1,4 +1,4 @@
--- Names that contracts cite, here and in crates above, re-exported from one place.
+-- Names that contracts of this crate and of crates above cite, re-exported from one place.
 pub use Rattle.dm_replay.specs.Base.{AllByRecursion, AreTops, BlockUnit, CopyOf, Description, FillOf, IfErr, IfOk, IfSome, IsFitting, IsIntact, IsOnDisk, IsOnDisks, IsPut, IsTidy, IsTop, KeptWrite, List, MapperView, None, OnErr, OnFalse, OnOk, OnTrue, Op, Option, ReadOf, Request, Some, Value, ValueRun, WriteOf, Wrote, [], code, decimal, device_len, false, halted_units, is_same, length, min, nat_lt, piece_len, position, start_state, step_for, true, units_in, units_of, ℕ}
 unfoldable pub use Rattle.dm_replay.specs.Base.{sector_past}
 pub use Rattle.dm_replay.specs.Halting.{HasHalted, HasTaken}

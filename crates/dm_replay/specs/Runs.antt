@@ -1,4 +1,4 @@
--- Runs of answers: consecutive sectors whose answers count up, as one run.
+-- Runs of answers: consecutive sectors whose answers count up are one run.
 use Rattle.dm_replay.specs.Base.{ℕ, zero, suc, List, [], AllByRecursion, flat_map, ValueRun}
 use Rattle.dm_replay.specs.declared.value.Value.TheVariants as value
 use Rattle.dm_replay.specs.declared.value_run.ValueRun.TheVariants as runs
@@ -12,37 +12,37 @@ first_answer (runs.Wrote request start len) = Gives (value.Wrote request start)
 first_answer (runs.Zero len) = Gives value.Zero
 first_answer (runs.Error len) = Failed
 
--- how many sectors a run has
+-- the length of a run in sectors
 abbrev pub run_len : ValueRun → ℕ
 run_len (runs.Old disk start len) = len
 run_len (runs.Wrote request start len) = len
 run_len (runs.Zero len) = len
 run_len (runs.Error len) = len
 
--- the answer of the next sector, if the answers count up from this one
+-- the answer of the sector after one with this answer, if answers count up
 abbrev pub next_answer : Answer → Answer
 next_answer (Gives first) = Gives (next_value first)
 next_answer Failed = Failed
 
--- the answer of the sector `len` sectors further on in a run
+-- the answer of the sector `len` sectors after one with this answer, if answers count up
 abbrev pub further_answer : Answer → (len : ℕ) → Answer
 further_answer (Gives first) len = Gives (further first len)
 further_answer Failed len = Failed
 
--- `len` answers that count up from `first`
+-- the answers of `len` sectors, counting up from `first`
 abbrev pub answers_in : Answer → (len : ℕ) → List Answer
 answers_in first zero = []
 answers_in first (suc len) = first ∷ answers_in (next_answer first) len
 
--- the answers of a run's sectors, in order
+-- the answers of all sectors of a run, in order
 abbrev pub run_answers : ValueRun → List Answer
 run_answers run = answers_in (first_answer run) (run_len run)
 
--- the answers of all runs' sectors, in order
+-- the answers of all sectors of these runs, in order
 abbrev pub flat : List ValueRun → List Answer
 flat all = flat_map run_answers all
 
--- the second run continues the first, so that both could be one
+-- the run `after` continues `run`, so that both could be one run
 abbrev pub Joins : ValueRun → ValueRun → Type 0
 Joins run after = further_answer (first_answer run) (run_len run) ≡ first_answer after
 

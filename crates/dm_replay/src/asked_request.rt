@@ -6,7 +6,7 @@ ghost use Rattle.std.specs.Prelude.{◌≡◌};
 use dm_stack::DeviceId;
 use dm_table::{Op, Request};
 
-/// A request to a device that was played to its end, or halted after a number of units.
+/// A request to a device, which was either played to its end or halted after a number of units.
 #[derive(Clone, Copy, Drop)]
 pub(crate) struct AskedRequest {
     pub number: u64,
@@ -18,7 +18,7 @@ pub(crate) struct AskedRequest {
 }
 
 impl AskedRequest {
-    /// The request, with its device's id, and after how many units it was halted, if it was.
+    /// A request with its device's id. If it was halted, `halted_after` is the number of its units that were played.
     pub(crate) fn new(
         request: &Request<'_>,
         device: DeviceId,

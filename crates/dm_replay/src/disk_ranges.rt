@@ -1,7 +1,7 @@
-//! What was stored in the sectors of a disk.
+//! The values that were stored in the sectors of a disk.
 //!
-//! Ranges that don't overlap are in a map by their first sector. Of the ranges that begin before a sector, only the
-//! last can contain it, so one look-up finds it. A range that continues another is joined to it.
+//! A map has the ranges by their first sectors. Ranges don't overlap, so of those that begin before a sector only the
+//! last can contain it, and one look-up finds that one. A range that continues the one before is joined to it.
 
 ghost use Rattle.dm_replay.specs.Prelude.{ℕ, None, [], OnOk, IfSome, AreFirst, AreApart, Has, IsBare, IsCleared, IsCut, IsFirstFrom, IsLastBefore, IsRoomMade, KeepsCuts, KeepsStored, NoneFrom, Shows, Stored, held, spanned, stored_in};
 ghost use Rattle.std.specs.Prelude.{◌≡◌, ◌+◌, ◌<◌, ◌≤◌, ◌^◌};
@@ -13,7 +13,7 @@ use std::alloc::{AllocError, Global};
 use std::collections::BTreeMap;
 use std::marker::Model;
 
-/// What was stored in each sector of a disk, if anything was.
+/// The value that was stored in each sector of a disk, if one was.
 #[derive(Drop)]
 pub(crate) struct DiskRanges {
     ranges: BTreeMap<u64, RangeValues>,
@@ -32,7 +32,7 @@ impl Model for DiskRanges {
 }
 
 impl DiskRanges {
-    /// No stored ranges. Allocates nothing.
+    /// A `DiskRanges` in which nothing is stored. Allocates nothing.
     pub(crate) fn new(alloc: Global) -> DiskRanges
         ensures { result ≡ [] }
     {
@@ -41,10 +41,10 @@ impl DiskRanges {
         }
     }
 
-    /// The longest front of `len` sectors of this disk whose values count up from the first one's: it ends where a
-    /// stored range ends, or where the next one begins.
+    /// The longest front of the `len` sectors from `start` on whose values count up from the first sector's value. It
+    /// ends at the end of a stored range, or where the next stored range begins.
     ///
-    /// Cost: about `log n` steps for `n` ranges. Allocates nothing.
+    /// Cost: about `log n` steps if `n` ranges are stored. Allocates nothing.
     pub(crate) fn first_values(&self, disk: DiskId, start: u64, len: u64) -> RangeValues
         requires some { 1 ≤ len }
         requires small { start + len < 2 ^ 64 }
@@ -62,13 +62,13 @@ impl DiskRanges {
         }
     }
 
-    /// Stores the values of a range in the sectors from `start` on.
+    /// Stores a range of values in the sectors from `start` on.
     ///
-    /// Cost: about `log n` steps for `n` ranges, for each of them that it touches.
+    /// Cost: about `log n` steps for each stored range that is overwritten or joined, if there are `n` of them.
     ///
     /// # Errors
     ///
-    /// `AllocError` when out of memory: part of what was stored there may be lost.
+    /// `AllocError` when out of memory; part of what was stored in these sectors may be lost.
     pub(crate) fn store(&mut self, start: u64, range: RangeValues) -> Result<(), AllocError>
         requires { start + range.len < 2 ^ 64 }
         ensures { OnOk result
@@ -80,7 +80,7 @@ impl DiskRanges {
     }
 }
 
-/// Stores the values of a range in the sectors from `start` on.
+/// Stores a range of values in the sectors from `start` on.
 fn store_in(
     ranges: &mut BTreeMap<u64, RangeValues>,
     start: u64,
@@ -106,8 +106,8 @@ fn store_in(
     Ok(())
 }
 
-/// Removes what is stored from `start` on and before `end`. Returns whether the range to be stored there may continue
-/// the range before it. If nothing was stored there, the one search that finds this also settles whether it does.
+/// Removes what is stored in the sectors from `start` to before `end`, for a new range there. Returns whether the new
+/// range may continue the one before it. A single search suffices if nothing was stored in these sectors.
 fn make_room(
     ranges: &mut BTreeMap<u64, RangeValues>,
     start: u64,
@@ -135,7 +135,7 @@ fn make_room(
     Ok(true)
 }
 
-/// The last range that begins before a sector, and where it begins.
+/// The last range that begins before `sector`, with the sector where it begins.
 fn last_before(ranges: &BTreeMap<u64, RangeValues>, sector: u64) -> Option<(u64, RangeValues)>
     ensures some { IfSome result (λ found. IsLastBefore ranges.now sector found.0 found.1) }
     ensures none { result ≡ None → NoneFrom ranges.now 0 sector }
@@ -146,7 +146,7 @@ fn last_before(ranges: &BTreeMap<u64, RangeValues>, sector: u64) -> Option<(u64,
     }
 }
 
-/// The first sector from `start` on and before `end` where a range begins.
+/// The first sector where a range begins, from `start` to before `end`.
 fn first_from(ranges: &BTreeMap<u64, RangeValues>, start: u64, end: u64) -> Option<u64>
     requires { start ≤ end }
     ensures some { IfSome result (IsFirstFrom ranges.now start end) }
@@ -158,7 +158,7 @@ fn first_from(ranges: &BTreeMap<u64, RangeValues>, start: u64, end: u64) -> Opti
     }
 }
 
-/// The range that contains a sector, and where it begins.
+/// The range that contains `sector`, with the sector where it begins.
 fn range_with(ranges: &BTreeMap<u64, RangeValues>, sector: u64) -> Option<(u64, RangeValues)>
     requires small { sector + 1 < 2 ^ 64 }
     requires apart { AreApart ranges.now }
@@ -173,7 +173,7 @@ fn range_with(ranges: &BTreeMap<u64, RangeValues>, sector: u64) -> Option<(u64, 
     }
 }
 
-/// How many of `len` sectors come before the next range; the first is in none.
+/// How many of the `len` sectors from `start` on come before the next range. No range contains the first of them.
 fn bare_len(ranges: &BTreeMap<u64, RangeValues>, start: u64, len: u64) -> u64
     requires some { 1 ≤ len }
     requires small { start + len < 2 ^ 64 }
@@ -189,7 +189,7 @@ fn bare_len(ranges: &BTreeMap<u64, RangeValues>, start: u64, len: u64) -> u64
     }
 }
 
-/// Cuts the last range that begins before a sector in two there, if it extends across the sector's start.
+/// Splits `last`, the last range that begins before `sector`, in two at `sector`, if it contains that sector.
 fn cut(
     ranges: &mut BTreeMap<u64, RangeValues>,
     last: Option<(u64, RangeValues)>,
@@ -215,7 +215,7 @@ fn cut(
     Ok(())
 }
 
-/// Removes the ranges that begin from `start` on and before `end`.
+/// Removes all ranges that begin in the sectors from `start` to before `end`.
 fn clear(ranges: &mut BTreeMap<u64, RangeValues>, start: u64, end: u64)
     requires order { start ≤ end }
     requires apart { AreApart ranges.old }
@@ -228,7 +228,7 @@ fn clear(ranges: &mut BTreeMap<u64, RangeValues>, start: u64, end: u64)
     }
 }
 
-/// Calls `join_at`, if the range that begins at a sector may continue the one before it.
+/// Calls `join_at` if `goes_on` is true: the range that begins at `sector` may continue the one before.
 fn join_front(
     ranges: &mut BTreeMap<u64, RangeValues>,
     sector: u64,
@@ -245,7 +245,7 @@ fn join_front(
     }
 }
 
-/// Joins the range that begins at a sector to the one that ends there, if it continues that.
+/// Joins the range that begins at `sector` to the range that ends there, if it continues that range.
 fn join_at(ranges: &mut BTreeMap<u64, RangeValues>, sector: u64) -> Result<(), AllocError>
     requires { AreApart ranges.old }
     ensures apart { AreApart ranges.new }

@@ -1,7 +1,7 @@
 //! The values of all sectors of disks.
 //!
-//! Each disk has a list of ranges, up to the last disk on which something was stored. So memory grows with what was
-//! stored, however long the disks are.
+//! There is a list of ranges for each disk, up to the last disk on which something was stored. Memory grows with what
+//! was stored, however long the disks are.
 
 ghost use Rattle.dm_replay.specs.Prelude.{ℕ, [], length, OnOk, AreFirst, ranged, values_of};
 ghost use Rattle.std.specs.Prelude.{◌≡◌, ◌+◌, ◌<◌, ◌≤◌, ◌^◌};
@@ -12,7 +12,7 @@ use crate::value::Value;
 use dm_stack::DiskId;
 use std::alloc::{AllocError, Global};
 
-/// What the sectors of disks hold: what was stored in them, or what they held at the start.
+/// The value of each sector of each disk: what was stored in it or, if nothing was, what it held at the start.
 #[derive(Drop)]
 pub(crate) struct DiskValues {
     alloc: Global,
@@ -20,7 +20,7 @@ pub(crate) struct DiskValues {
 }
 
 impl DiskValues {
-    /// The values at the start. Allocates nothing.
+    /// The values at the start, when nothing is stored yet. Allocates nothing.
     pub(crate) fn new(alloc: Global) -> DiskValues
         ensures { result.disks.items ≡ [] }
     {
@@ -30,9 +30,9 @@ impl DiskValues {
         }
     }
 
-    /// The longest front of `len` sectors whose values count up from the first one's; at least one sector.
+    /// The longest front of the `len` sectors whose values count up from the first one's; it has at least one sector.
     ///
-    /// Cost: logarithmic in the ranges of the disk. Allocates nothing.
+    /// Cost: logarithmic in the number of the disk's stored ranges. Allocates nothing.
     pub(crate) fn first_values(&self, disk: DiskId, start: u64, len: u64) -> RangeValues
         requires some { 1 ≤ len }
         requires small { start + len < 2 ^ 64 }
@@ -49,9 +49,9 @@ impl DiskValues {
         RangeValues { first, len }
     }
 
-    /// Stores the values of a range in the sectors of a disk from `start` on.
+    /// Stores a range of values in the sectors of a disk from `start` on.
     ///
-    /// Cost: logarithmic in the ranges of the disk, for each of them that it touches.
+    /// Cost: for each stored range that is overwritten or joined, logarithmic in the number of the disk's ranges.
     ///
     /// # Errors
     ///
@@ -74,7 +74,7 @@ impl DiskValues {
     }
 }
 
-/// Adds disks on which nothing is stored, until there is one with this index.
+/// Adds disks with nothing stored until there is one with this index.
 fn reach(alloc: Global, disks: &mut Vec<DiskRanges>, index: usize) -> Result<(), AllocError>
     ensures there { OnOk result (index < length disks.new.items) }
     ensures same { (disk sector : ℕ) → values_of disks.new.items disk sector

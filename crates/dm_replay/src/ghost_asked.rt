@@ -1,4 +1,4 @@
-//! The list of requests that a replay has accepted; only proofs read it.
+//! The list of requests that a replay accepted. Only proofs read it.
 
 ghost use Rattle.dm_replay.specs.Prelude.{[], kept_request};
 ghost use Rattle.std.specs.Prelude.{◌≡◌, ◌++◌, ◌∷◌};
@@ -8,7 +8,7 @@ use dm_stack::DeviceId;
 use dm_table::{GhostList, Request};
 use std::marker::Model;
 
-/// A growing list of requests, of size zero at run time.
+/// A growing list of requests. It has size zero at run time.
 #[derive(Drop)]
 pub(crate) struct GhostAsked {
     requests: GhostList<AskedRequest>,
@@ -25,7 +25,7 @@ impl Model for GhostAsked {
 }
 
 impl GhostAsked {
-    /// No requests.
+    /// A list without requests.
     #[inline(always)]
     pub(crate) fn new() -> GhostAsked
         ensures { result ≡ [] }
@@ -35,7 +35,7 @@ impl GhostAsked {
         }
     }
 
-    /// Adds a request to a device behind those so far.
+    /// Adds a request at the end of the list.
     pub(crate) fn add(&mut self, request: &Request<'_>, device: DeviceId, halted_after: Option<u64>)
         ensures { self.new ≡ self.old ++ kept_request request.now device halted_after ∷ [] }
     {

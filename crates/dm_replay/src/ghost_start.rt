@@ -1,4 +1,4 @@
-//! The state that a replay started in; only proofs read it.
+//! The state in which a replay started. Only proofs read it.
 
 ghost use Rattle.std.specs.Prelude.{◌≡◌};
 
@@ -7,7 +7,7 @@ use dm_table::GhostList;
 use std::marker::Model;
 use std::slice::from_ref;
 
-/// A mapper's state at an earlier moment, of size zero at run time.
+/// The state of a mapper at an earlier moment. It has size zero at run time.
 #[derive(Drop)]
 pub(crate) struct GhostStart<'s, T: Taken> {
     mappers: GhostList<Mapper<'s, T>>,
@@ -23,7 +23,7 @@ impl<'s, T: Taken> Model for GhostStart<'s, T> {
 }
 
 impl<'s, T: Taken> GhostStart<'s, T> {
-    /// The state that a mapper is in now.
+    /// Records the state that a mapper is in now.
     #[inline(always)]
     pub(crate) fn of(mapper: &Mapper<'s, T>) -> GhostStart<'s, T>
         ensures { result ≡ mapper.now.state }

@@ -1,7 +1,7 @@
-//! The halting player: a sink that plays up to a number of units, and fails at the next one.
+//! The halting player: a sink that plays a given number of units, and fails at the next one.
 //!
-//! It owns its player while a request is mapped. After a sink has failed, only the sink can say what was played, so
-//! its relations must be about the values of its own player.
+//! A halting player owns its player while a request is mapped: after the sink fails, only the sink knows what was
+//! played, so the sink's relations are about its own player.
 
 ghost use Rattle.dm_replay.specs.Prelude.{true, false, OnErr, OnOk, IsOnDisks, piece_len, units_of, HasHalted, HasTaken};
 ghost use Rattle.std.specs.Prelude.{◌≡◌, ◌<◌, ◌≤◌};
@@ -9,18 +9,18 @@ ghost use Rattle.std.specs.Prelude.{◌≡◌, ◌<◌, ◌≤◌};
 use crate::player::Player;
 use dm_map::{Piece, Sink};
 
-/// Plays pieces on the disks of a stack, up to a number of units.
+/// Plays at most `left` units of pieces on the disks of a stack.
 #[derive(Drop)]
 pub(crate) struct Halting<'s> {
     pub player: Player<'s>,
     /// How many more units may be played.
     pub left: u64,
-    /// Whether it failed because more units came than were left; those that were left have been played then.
+    /// Whether the player failed because it got more units than `left`; all units it had left were played before that.
     pub halted: bool,
 }
 
 impl<'s> Halting<'s> {
-    /// A halting player that plays at most `units` units with this player.
+    /// A halting player that plays at most `units` units, with `player`.
     pub(crate) fn new(player: Player<'s>, units: u64) -> Halting<'s>
         ensures player { result.player ≡ player.entry }
         ensures left { result.left ≡ units }
@@ -33,14 +33,14 @@ impl<'s> Halting<'s> {
         }
     }
 
-    /// Returns the player, after what it played. Allocates nothing.
+    /// Returns the inner player with all that it has played. Allocates nothing.
     pub(crate) fn into_player(self) -> Player<'s>
         ensures { result ≡ self.entry.player }
     {
         self.player
     }
 
-    /// Plays a piece. Fails if it has more units than are left, or when out of memory.
+    /// Plays a piece. Fails if the piece has more units than are left, or when out of memory.
     fn play(&mut self, piece: Piece) -> Result<(), ()>
         requires some { 1 ≤ piece_len piece }
         requires lies { IsOnDisks self.old.player.stack.now piece }
@@ -60,7 +60,7 @@ impl<'s> Halting<'s> {
         Ok(())
     }
 
-    /// Plays the units that are left, of a piece that has more. The player is halted then, unless memory ran out.
+    /// Plays the units that are left, from the front of a piece that has more. Sets `halted`, unless memory runs out.
     fn halt(&mut self, piece: Piece)
         requires lies { IsOnDisks self.old.player.stack.now piece }
         requires more { self.old.left < piece_len piece }
@@ -98,7 +98,7 @@ impl Sink for Halting<'_> {
       left = λ old units new. old.halted ≡ false → new.halted ≡ true → HasHalted old units new;
     } };
 
-    /// Plays a piece. Fails if more units come than are left, or when out of memory.
+    /// Plays a piece. Fails if the piece has more units than are left, or when out of memory.
     fn piece(&mut self, piece: Piece) -> Result<(), ()> {
         match self.play(piece) {
             Ok(()) => Ok(()),

@@ -1,4 +1,4 @@
-//! Writes that a replay keeps, to map them again.
+//! Writes that a replay keeps so that it can map them again.
 
 ghost use Rattle.dm_replay.specs.Prelude.{OnOk, with_request};
 ghost use Rattle.std.specs.Prelude.{◌≡◌};
@@ -7,8 +7,8 @@ use dm_stack::DeviceId;
 use dm_table::Op;
 use std::alloc::AllocError;
 
-/// The sectors of a write that count for the state that it left: from its first one on, those whose units were all
-/// played, if the write lies inside its device.
+/// The part of a write that determines the state after it: the sectors from `start` on whose units were all played.
+/// There are none if the write passes the end of its device.
 #[derive(Clone, Copy, Drop)]
 pub(crate) struct KeptWrite {
     pub device: DeviceId,
@@ -16,7 +16,7 @@ pub(crate) struct KeptWrite {
     pub whole: u64,
 }
 
-/// Keeps a request's whole sectors if it is a write; a read isn't kept, because it changes no state.
+/// Keeps the whole sectors of a request if it is a write. Reads aren't kept, because they change no state.
 ///
 /// # Errors
 ///

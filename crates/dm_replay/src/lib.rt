@@ -1,8 +1,7 @@
-//! Requests played on the values of disks.
+//! Plays requests on the values of disks.
 //!
-//! A `Replay` plays the units of requests, one request after the other, on disks whose sectors hold what they held
-//! before, and answers what each sector of a request reads or stores. There is no table of all sectors: its memory
-//! grows with the ranges that were stored.
+//! A `Replay` plays requests one after the other on disks whose sectors hold their old values at first. It returns what
+//! each sector of a request reads or stores. Memory grows with the stored ranges, not with the disks.
 #![tactic(auto)]
 
 mod asked_request;

@@ -1,5 +1,4 @@
-//! The playback of one request: all of its units, or the first of them, from a mapper to a player on the values of
-//! disks.
+//! The playback of one request: a mapper hands all of its units, or the first few, to a player on the values of disks.
 
 ghost use Rattle.dm_replay.specs.Prelude.{false, length, min, IfOk, OnOk, device_len, sector_past, halted_units, step_for, AreRunsOf, values_of, played_answers};
 ghost use Rattle.dm_replay.specs.Playback.{CanPlay, HasPlayedOf};
@@ -13,11 +12,11 @@ use dm_stack::DeviceId;
 use dm_table::Request;
 use std::alloc::{AllocError, Global};
 
-/// Plays a request to a device of the stack, and returns its answers.
+/// Plays a request to a device of the stack, and returns the answers of its sectors.
 ///
 /// # Errors
 ///
-/// `AllocError` when out of memory: part of the request may have been played.
+/// `AllocError` when out of memory; part of the request may have been played.
 pub(crate) fn play_request<T: Taken>(
     alloc: Global,
     mapper: &mut Mapper<'_, T>,
@@ -45,8 +44,8 @@ pub(crate) fn play_request<T: Taken>(
     }
 }
 
-/// Plays the first `units` units of a request to a device of the stack, or all if it has fewer. The mapper is used
-/// up, because it has failed if there are more.
+/// Plays the first `units` units of a request to a device of the stack, or all if it has fewer. Consumes the mapper,
+/// because a mapper fails if the request has more.
 ///
 /// # Errors
 ///

@@ -1,7 +1,7 @@
 //! The player: a sink that plays the pieces of a request on the values of disks.
 //!
-//! Its relation is about the value of each sector, so nothing above needs to know that values are kept as ranges.
-//! Nothing is said of a player that failed.
+//! The player's relation is about the value of each sector, so the code above doesn't depend on how values are kept.
+//! Nothing is promised about a player that failed.
 
 ghost use Rattle.dm_replay.specs.Prelude.{[], OnOk, IsOnDisk, IsOnDisks, piece_len, units_of, HasPlayed, AreMaximal};
 ghost use Rattle.std.specs.Prelude.{◌≡◌, ◌+◌, ◌<◌, ◌≤◌, ◌^◌};
@@ -25,7 +25,7 @@ pub(crate) struct Player<'s> {
 }
 
 impl<'s> Player<'s> {
-    /// A player on the disks of a stack as they are at the start. Allocates nothing.
+    /// A player on the disks of a stack, with the values at the start. Allocates nothing.
     pub(crate) fn new(alloc: Global, stack: &'s Stack) -> Player<'s>
         ensures stack { result.stack.now ≡ stack.now }
         ensures ranges { result.playing.values.disks.items ≡ [] }
@@ -42,7 +42,7 @@ impl<'s> Player<'s> {
         }
     }
 
-    /// Sets the number of the next request, and the first sector of its device to be answered. Removes earlier answers.
+    /// Sets the number of the next request and the first sector to be answered, and removes earlier answers.
     pub(crate) fn begin(&mut self, alloc: Global, number: u64, first: u64)
         ensures playing { self.new.playing
             ≡ record { values = self.old.playing.values; number = number; next = first; runs = [] } }
@@ -53,7 +53,7 @@ impl<'s> Player<'s> {
         self.playing.runs = ValueRuns::new(alloc);
     }
 
-    /// Returns what was answered since the request began, and removes it from the player.
+    /// Returns the answers since the request began, and removes them from the player.
     pub(crate) fn take_runs(&mut self, alloc: Global) -> Vec<ValueRun>
         ensures runs { result.items ≡ self.old.playing.runs }
         ensures maximal { AreMaximal result.items }
@@ -63,7 +63,7 @@ impl<'s> Player<'s> {
         replace(&mut self.playing.runs, ValueRuns::new(alloc)).into_vec()
     }
 
-    /// Plays a piece: changes the values of disks, and adds to the answers.
+    /// Plays a piece: changes the values of disks, and adds the piece's answers.
     pub(crate) fn play(&mut self, piece: Piece) -> Result<(), AllocError>
         requires some { 1 ≤ piece_len piece }
         requires lies { IsOnDisks self.old.stack.now piece }
@@ -111,7 +111,7 @@ impl<'s> Player<'s> {
     }
 }
 
-/// Recalls that no disk is longer than 2^50 sectors. It does nothing at run time; callers need its contract.
+/// Makes the fact that no disk is longer than 2^50 sectors available to a proof. Does nothing at run time.
 fn recall_length(stack: &Stack, disk: DiskId, start: u64, len: u64)
     requires { IsOnDisk stack.now disk start len }
     ensures { start + len ≤ 2 ^ 50 }

@@ -1,4 +1,4 @@
-//! Playing: what the pieces of a request change in the values of disks, and what they answer.
+//! Playing: how the pieces of a request change the values of disks, and what they answer.
 
 ghost use Rattle.dm_replay.specs.Prelude.{OnOk, ReadOf, WriteOf, CopyOf, FillOf, units_in, CanCopyAtOnce, HasPlayed, flat, run_answers, run_len};
 ghost use Rattle.std.specs.Prelude.{◌≡◌, ◌+◌, ◌<◌, ◌≤◌, ◌^◌, ◌++◌};
@@ -11,8 +11,8 @@ use crate::value_runs::ValueRuns;
 use dm_stack::DiskId;
 use std::alloc::{AllocError, Global};
 
-/// The values of disks, and the request that is played on them: its number, the next sector of its device to be
-/// answered, and the answers so far.
+/// The values of disks, and the request that is being played: its number, the next sector of its device to be answered,
+/// and the answers so far.
 #[derive(Drop)]
 pub(crate) struct Playing {
     pub values: DiskValues,
@@ -22,11 +22,11 @@ pub(crate) struct Playing {
 }
 
 impl Playing {
-    /// Answers the next sectors with a run.
+    /// Adds a run, which answers the next sectors of the request.
     ///
     /// # Errors
     ///
-    /// `AllocError` when out of memory, or if the sectors would be numbered beyond 2^64.
+    /// `AllocError` when out of memory, or if the number of the next sector would be 2^64 or more.
     pub(crate) fn answer(&mut self, run: ValueRun) -> Result<(), AllocError>
         requires { 0 < run_len run }
         ensures values { OnOk result (self.new.values ≡ self.old.values) }
@@ -43,7 +43,7 @@ impl Playing {
         Ok(())
     }
 
-    /// Reads sectors of a disk, and answers them with their values.
+    /// Reads sectors of a disk, and adds their values to the answers.
     pub(crate) fn read(&mut self, disk: DiskId, start: u64, len: u64) -> Result<(), AllocError>
         requires small { start + len < 2 ^ 64 }
         ensures { OnOk result (HasPlayed self.old (units_in (ReadOf disk start) len) self.new) }
@@ -59,7 +59,7 @@ impl Playing {
         Ok(())
     }
 
-    /// Writes the next sectors of the request to a disk, and answers them.
+    /// Writes the next sectors of the request to a disk, and adds them to the answers.
     pub(crate) fn write(&mut self, disk: DiskId, start: u64, len: u64) -> Result<(), AllocError>
         requires some { 0 < len }
         requires small { start + len < 2 ^ 64 }
@@ -79,7 +79,7 @@ impl Playing {
         Ok(())
     }
 
-    /// Writes zeros to sectors of a disk.
+    /// Stores zeros in sectors of a disk.
     pub(crate) fn fill(&mut self, disk: DiskId, start: u64, len: u64) -> Result<(), AllocError>
         requires small { start + len < 2 ^ 64 }
         ensures { OnOk result (HasPlayed self.old (units_in (FillOf disk start) len) self.new) }
@@ -89,7 +89,7 @@ impl Playing {
         Ok(())
     }
 
-    /// Copies sectors of a disk to another place, with the result of copying them one after the other.
+    /// Copies sectors of a disk to another place. The result is that of copying one sector after the other.
     pub(crate) fn copy(
         &mut self,
         disk: DiskId,
@@ -118,8 +118,8 @@ impl Playing {
     }
 }
 
-/// How many of `len` sectors can be copied at once. If the target begins inside the source, later sectors are read
-/// only after earlier ones were written there.
+/// How many of `len` sectors can be copied at once: if the target begins inside the source, only those before the
+/// target, because the later ones are overwritten before they are read.
 fn len_at_once(disk: DiskId, start: u64, to: DiskId, to_start: u64, len: u64) -> u64
     requires { 1 ≤ len }
     ensures some { 1 ≤ result }

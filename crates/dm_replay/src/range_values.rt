@@ -1,4 +1,4 @@
-//! The values of consecutive sectors, counting up from that of the first.
+//! The values of consecutive sectors, which count up from the value of the first.
 
 ghost use Rattle.dm_replay.specs.Base.{OnTrue, OnFalse};
 ghost use Rattle.dm_replay.specs.Values.{further, value_end};
@@ -6,7 +6,7 @@ ghost use Rattle.std.specs.Prelude.{◌≡◌, ◌≢◌, ◌+◌, ◌<◌, ◌�
 
 use crate::value::Value;
 
-/// The value of the first of `len` sectors; the others' values count up from it.
+/// The value of the first of `len` sectors; the values of the others count up from it.
 #[derive(Clone, Copy, Drop)]
 pub(crate) struct RangeValues {
     pub first: Value,
@@ -15,7 +15,7 @@ pub(crate) struct RangeValues {
 }
 
 impl RangeValues {
-    /// Up to `len` sectors of this range, from the one that `past` sectors come before on.
+    /// At most `len` sectors of this range, starting after its first `past` sectors.
     pub(crate) fn rest(&self, past: u64, len: u64) -> RangeValues
         requires some { 1 ≤ len }
         requires there { past < self.now.len }
@@ -31,7 +31,7 @@ impl RangeValues {
         }
     }
 
-    /// Whether the values of `after` continue those of this range.
+    /// Whether the values of the range `after` continue those of this range.
     pub(crate) fn joins(&self, after: &RangeValues) -> bool
         ensures joins { OnTrue result (further self.now.first self.now.len ≡ after.now.first) }
         ensures apart { OnFalse result (further self.now.first self.now.len ≢ after.now.first) }
@@ -39,7 +39,7 @@ impl RangeValues {
         self.first.further(self.len) == after.first
     }
 
-    /// A range with the same first value and this length.
+    /// A range of `len` sectors with the same first value.
     pub(crate) fn with_len(&self, len: u64) -> RangeValues
         requires { value_end self.now.first len < 2 ^ 64 }
         ensures first { result.first ≡ self.now.first }

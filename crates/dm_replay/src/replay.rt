@@ -1,6 +1,6 @@
 //! Replays: requests played one after the other on the disks of a stack.
 //!
-//! `specs/Histories.antt` defines what the disks hold after the accepted requests, and what a request answers then;
+//! `specs/Histories.antt` defines what the disks hold after the accepted requests, and what the next request answers.
 //! `specs/Rows.antt` defines what each device would hold if it were alone.
 
 ghost use Rattle.dm_replay.specs.Prelude.{[], IfErr, IfOk, IfSome, None, OnOk, Option, Some, false, length, nat_lt, position, AreTops, IsTidy, IsTop, device_len, is_same, world_after, AreOfTops, HasTop, IsAnswered, IsNotAnswered, IsNotBegun, IsNotHalted, IsUnanswered, IsIntact, IsFitting, start_state, asked_request, halted_request, new_replay, replay_from, whole_request};
@@ -24,12 +24,12 @@ use dm_table::{Request, Reserved};
 use std::alloc::Global;
 use std::marker::Model;
 
-/// The disks of a stack, on which requests to its top devices are played one after the other. In contracts, its value
-/// is the stack, the state at the start, the accepted requests, and whether the replay failed because memory ran out.
+/// Plays requests to the top devices of a stack on its disks, one after the other. In contracts, the value is the
+/// stack, the state at the start, the accepted requests, and whether the replay failed because memory ran out.
 #[derive(Drop)]
 pub struct Replay<'s, T: Taken> {
     stack: &'s Stack,
-    /// For each device, whether it is a top device.
+    /// For each device, by its id, whether it is a top device.
     tops: Reserved<bool>,
     mapper: Mapper<'s, T>,
     player: Player<'s>,
@@ -52,10 +52,10 @@ impl<'s, T: Taken> Model for Replay<'s, T> {
 }
 
 impl<'s, T: Taken> Replay<'s, T> {
-    /// A replay of a stack, none of whose claims may clash. Each sector of its disks holds what it held before, and
+    /// A replay of a stack whose claims don't clash. Each sector of the stack's disks holds its old value, and all
     /// snapshots are fresh.
     ///
-    /// Cost: that of `Stack::tidy` and of `Stack::tops`, whose result is kept, so that no request looks at all lines.
+    /// Cost: that of `Stack::tidy` and `Stack::tops`. The top devices are kept, so no request searches all lines.
     ///
     /// # Errors
     ///
@@ -66,7 +66,7 @@ impl<'s, T: Taken> Replay<'s, T> {
         ensures tidy { OnOk result (IsTidy stack.now) }
         ensures fault { IfErr result (λ fault. IsNotBegun fault stack.now) }
     {
-        // Called for its contract, which says that no snapshot is lost at the start.
+        // Called for the contract: no snapshot is lost at the start.
         nothing_is_lost::<Value>(stack);
         match Mapper::new(alloc, stack.looker()) {
             Ok(mapper) => Replay::go_on(alloc, stack, mapper),
@@ -74,10 +74,10 @@ impl<'s, T: Taken> Replay<'s, T> {
         }
     }
 
-    /// A replay of a stack, none of whose claims may clash, that starts in the state of a mapper. Each sector of its
-    /// disks holds what it holds now, and each top device what its reads give in that state.
+    /// A replay of a stack whose claims don't clash, which starts in the state of a mapper. Each sector of the stack's
+    /// disks holds its old value, and each top device what reads return in that state.
     ///
-    /// Cost and errors are those of `new`.
+    /// The cost and the errors are those of `new`.
     pub fn go_on(
         alloc: Global,
         stack: &'s Stack,
@@ -107,7 +107,7 @@ impl<'s, T: Taken> Replay<'s, T> {
         })
     }
 
-    /// The mapper of a replay that has not failed, in the state that its requests left.
+    /// The mapper of a replay that has not failed, in the state that the accepted requests left.
     pub fn mapper(&self) -> &Mapper<'s, T>
         requires { self.now.failed ≡ false }
         ensures stack { result.now.stack ≡ self.now.stack }
@@ -118,18 +118,17 @@ impl<'s, T: Taken> Replay<'s, T> {
         &self.mapper
     }
 
-    /// Plays a request to a top device, and returns what each of its sectors answered, in maximal runs: what a read
-    /// gave, what a write stored, or that it failed.
+    /// Plays a request to a top device, and returns what each sector answered, in maximal runs: the value that was read
+    /// or written, or that the sector failed.
     ///
     /// Cost: that of mapping the request, and about `log n` steps for each stored range that is read, copied or
-    /// overwritten, if there are `n` ranges; ranges that continue each other are one. Memory grows with the ranges,
-    /// by 40 bytes each and unused room in the map, and with the writes, by 24 bytes each, or twice that while their
-    /// list grows. Reads aren't kept.
+    /// overwritten, if there are `n` ranges; ranges that continue each other count as one. Memory: 40 bytes for each
+    /// range, and unused room in the map; 24 bytes for each write, twice that while their list grows; none for reads.
     ///
     /// # Errors
     ///
-    /// `NotTop` if no top device has the name, and `Stopped` if memory ran out at an earlier request; nothing
-    /// changes. `Memory` when out of memory: the replay has failed from then on.
+    /// `NotTop` if no top device has the name, and `Stopped` if memory ran out at an earlier request; nothing changes.
+    /// `Memory` when out of memory; the replay has then failed for good.
     pub fn request(
         &mut self,
         alloc: Global,
@@ -149,12 +148,12 @@ impl<'s, T: Taken> Replay<'s, T> {
         }
     }
 
-    /// Plays a request to the device with this id, which belongs to the stack; the name in the request isn't read.
-    /// This is `request` without the look-up of the name, for callers who know the device.
+    /// Plays a request to the device with this id, which belongs to the stack. Like `request`, but for callers who know
+    /// the device: the name in the request isn't read.
     ///
     /// # Errors
     ///
-    /// Those of `request`, in the same order: `NotTop` if the device is no top device.
+    /// Those of `request`, in the same order; `NotTop` if the device isn't a top device.
     pub fn request_of(
         &mut self,
         alloc: Global,
@@ -176,11 +175,11 @@ impl<'s, T: Taken> Replay<'s, T> {
         if !self.tops[device.index()] {
             return Err(ReplayFault::NotTop);
         }
-        // Called for their contracts, which say that top devices behave like disks of their own, and when
-        // they do so without errors.
+        // Called for their contracts: top devices behave like disks of their own and, if the stack can't lose anything,
+        // without errors.
         requests_are_alone::<Value>(self.stack);
         nothing_is_lost::<Value>(self.stack);
-        // The replay counts as failed until the end, so that it has failed wherever memory runs out.
+        // Marked as failed until the request is done, so that the replay has failed wherever memory runs out.
         self.failed = true;
         let Ok(runs) = play_request(alloc, &mut self.mapper, &mut self.player, request, device)
         else {
@@ -199,19 +198,19 @@ impl<'s, T: Taken> Replay<'s, T> {
         Ok(runs)
     }
 
-    /// Plays the first `units` units of a request to a top device, or all if it has fewer, and returns a replay that
-    /// goes on from there, in the state after the sectors whose units were all played.
+    /// Plays the first `units` units of a request to a top device, or all if it has fewer. Returns a replay that goes
+    /// on in the state after those sectors of the request whose units were all played.
     ///
-    /// The replay must have started with fresh snapshots: its writes are mapped again from there. So a chunk is not
-    /// taken if not all of it was copied, or if its sector wasn't written after that. Each unit is played whole, and
-    /// units are played in order. Requests and further halts may follow.
+    /// The replay must have started with fresh snapshots, because all writes are mapped again from the start. So a
+    /// chunk isn't taken if it wasn't copied whole, or if no sector was written after the copy. Units are played whole
+    /// and in order. Further requests and halts may follow.
     ///
-    /// Cost: that of the request, and of mapping all writes so far again.
+    /// Cost: that of the request, and that of mapping all writes so far again.
     ///
     /// # Errors
     ///
-    /// `Stopped` if memory ran out at an earlier request, `NotTop` if no top device has the name, and `Memory` when
-    /// out of memory. The replay can't be used after an error.
+    /// `Stopped` if memory ran out at an earlier request, `NotTop` if no top device has the name, and `Memory` when out
+    /// of memory. After an error there is no replay any more.
     pub fn halt(
         self,
         alloc: Global,
@@ -274,8 +273,8 @@ impl<'s, T: Taken> Replay<'s, T> {
     }
 }
 
-/// How many sectors of a request are whole, if `next` is the next one to answer; none if the request passes the
-/// device's end.
+/// How many sectors of a request were played whole, if `next` is the next sector to answer; 0 if the request passes the
+/// end of its device.
 fn whole_sectors(stack: &Stack, device: DeviceId, request: &Request<'_>, next: u64) -> u64
     requires device { device < length stack.now.devices }
     requires next { request.now.start + request.now.len ≤ device_len stack.now device
@@ -291,7 +290,7 @@ fn whole_sectors(stack: &Stack, device: DeviceId, request: &Request<'_>, next: u
     }
 }
 
-/// Refuses a stack with two claims that clash.
+/// Refuses a stack if two of its claims clash.
 fn refuse_clash(alloc: Global, stack: &Stack) -> Result<(), ReplayFault>
     ensures tidy { OnOk result (IsTidy stack.now) }
     ensures fault { IfErr result (λ fault. IsNotBegun fault stack.now) }
@@ -303,7 +302,7 @@ fn refuse_clash(alloc: Global, stack: &Stack) -> Result<(), ReplayFault>
     }
 }
 
-/// The top device with this name; `tops` says which devices are top devices.
+/// The top device with this name. `tops` tells for each device whether it is a top device.
 fn top_device(stack: &Stack, tops: &[bool], name: &str) -> Option<DeviceId>
     requires { AreTops stack.now tops.now }
     ensures some { IfSome result

@@ -1,8 +1,8 @@
-//! Why a replay didn't start, or didn't answer a request.
+//! Why a replay can't start, or can't answer a request.
 
 use thiserror::Error;
 
-/// Why there is no replay, or no answer.
+/// Why there is no replay or no answer.
 #[derive(Clone, Copy, Debug, PartialEq, Eq, Drop, Error)]
 pub enum ReplayFault {
     /// Two claims of the stack clash.
@@ -11,7 +11,7 @@ pub enum ReplayFault {
     /// Memory ran out.
     #[error("memory")]
     Memory,
-    /// No top device has the name.
+    /// No top device has the name in the request.
     #[error("not top")]
     NotTop,
     /// Memory ran out at an earlier request.

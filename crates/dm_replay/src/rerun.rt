@@ -1,7 +1,7 @@
-//! Reruns: a mapper in the state that kept writes left.
+//! Reruns: a new mapper is brought into the state that the kept writes left.
 //!
-//! A mapper whose sink failed can't map any more. So a new mapper maps the whole sectors of each write again, to a
-//! sink that accepts everything and does nothing.
+//! A mapper whose sink failed can't map anything more. So a new mapper maps the whole sectors of each kept write again,
+//! to a sink that discards everything.
 
 ghost use Rattle.dm_replay.specs.Prelude.{false, IfOk, AllByRecursion, start_state, IsKept, rerun_from, rerun_step};
 ghost use Rattle.std.specs.Prelude.{◌≡◌};
@@ -12,9 +12,9 @@ use dm_stack::Stack;
 use dm_table::{Op, Request};
 use std::alloc::{AllocError, Global};
 
-/// A mapper of a stack, in the state that writes to its devices left.
+/// A new mapper of a stack, in the state that the kept writes left.
 ///
-/// Cost: that of mapping the writes again.
+/// Cost: that of mapping all kept writes again.
 ///
 /// # Errors
 ///
@@ -38,7 +38,7 @@ pub(crate) fn rerun<'s, T: Taken>(
     Ok(mapper)
 }
 
-/// Maps the whole sectors of a kept write again.
+/// Maps the whole sectors of one kept write again.
 fn map_again<T: Taken>(kept: &KeptWrite, mapper: &mut Mapper<'_, T>, discard: &mut Discard<'_>)
     requires going { mapper.old.failed ≡ false }
     requires stack { discard.old.stack.now ≡ mapper.old.stack }

@@ -1,4 +1,4 @@
-//! The lines of runs, written to an output.
+//! Runs of answers, written as lines to an output.
 
 ghost use Rattle.dm_replay.specs.Prelude.{length, decimal, AllByRecursion, IsPut, Wrote, code, IsRunOf, run_line, run_text, runs_text};
 ghost use Rattle.std.specs.Prelude.{◌++◌, ◌+◌, ◌≤◌, ◌∷◌};
@@ -8,7 +8,7 @@ use dm_stack::Stack;
 use dm_table::{OutFault, Output, Text, put_bytes, put_digits};
 use std::marker::Model;
 
-/// The line of a run of answers over a stack, with its request's number.
+/// The line of a run of answers, with the request's number. `stack` has the names of the disks.
 #[derive(Drop)]
 struct RunLine<'a> {
     stack: &'a Stack,
@@ -39,7 +39,7 @@ impl<'a> Text for RunLine<'a> {
     }
 }
 
-/// Puts a run at offset `at` of a block, and returns where it ends.
+/// Puts a run at offset `at` of a block, and returns the offset after it.
 fn put_run(block: &mut [u8], at: usize, stack: &Stack, run: &ValueRun) -> usize
     requires room { at + 400 ≤ length block.old }
     requires disks { IsRunOf (length stack.now.disks) run.now }
@@ -72,7 +72,7 @@ fn put_run(block: &mut [u8], at: usize, stack: &Stack, run: &ValueRun) -> usize
     }
 }
 
-/// Puts a start and a length at offset `at` of a block, each after a space.
+/// Puts a start and a length at offset `at` of a block, each after a space, and returns the offset after them.
 fn put_range(block: &mut [u8], at: usize, start: u64, len: u64) -> usize
     requires room { at + 60 ≤ length block.old }
     ensures put { IsPut (code " " ∷ decimal start ++ code " " ∷ decimal len) at block.old block.new result }
@@ -84,11 +84,11 @@ fn put_range(block: &mut [u8], at: usize, start: u64, len: u64) -> usize
     put_digits(block, at, len)
 }
 
-/// Writes what the request of this number answered: a line `N old DISK START LEN`, `N wrote K START LEN`, `N zero
-/// LEN` or `N error LEN` for each run.
+/// Writes the answers of the request with this number, a line for each run: `N old DISK START LEN`, `N wrote K START
+/// LEN`, `N zero LEN` or `N error LEN`.
 ///
-/// The runs name only disks of the stack. After a fault, only a prefix of the text is written, and nothing is tried
-/// again. Allocates nothing, and makes one write for each line.
+/// The runs name only disks of the stack. If a write fails, only a prefix of the text is written, and the write isn't
+/// tried again. Makes one write for each line. Allocates nothing.
 pub fn write_runs<W: Output>(
     stack: &Stack,
     number: u64,
@@ -104,7 +104,7 @@ pub fn write_runs<W: Output>(
     Ok(())
 }
 
-/// Writes the line of a run.
+/// Writes the line of one run.
 fn write_run<W: Output>(
     stack: &Stack,
     number: u64,

@@ -6,19 +6,19 @@ ghost use Rattle.std.specs.Prelude.{◌≡◌, ◌+◌, ◌<◌, ◌^◌};
 use crate::value_run::ValueRun;
 use dm_stack::DiskId;
 
-/// What a sector of a disk holds.
+/// The value that a sector of a disk holds.
 #[derive(Clone, Copy, PartialEq, Eq, Drop)]
 pub(crate) enum Value {
-    /// What a sector of a disk held at the start.
+    /// The value that a sector of a disk held at the start.
     Old { disk: DiskId, sector: u64 },
     /// Zeros.
     Zero,
-    /// What a request wrote to a sector of its device.
+    /// The value that a request wrote to a sector of its device.
     Wrote { request: u64, sector: u64 },
 }
 
 impl Value {
-    /// The value `len` sectors further on, if values count up from this one.
+    /// The value of the sector `len` sectors further on, if values count up from this one.
     pub(crate) fn further(self, len: u64) -> Value
         requires { value_end self len < 2 ^ 64 }
         ensures { result ≡ further self len }
@@ -36,7 +36,7 @@ impl Value {
         }
     }
 
-    /// The run of `len` values that count up from this one.
+    /// The run of `len` sectors whose values count up from this one.
     pub(crate) fn run(self, len: u64) -> ValueRun
         ensures first { first_answer result ≡ Gives self }
         ensures len { run_len result ≡ len }

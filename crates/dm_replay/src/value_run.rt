@@ -1,25 +1,25 @@
-//! Runs: the answers of consecutive sectors.
+//! Runs: the answers of consecutive sectors, as one value.
 
 ghost use Rattle.dm_replay.specs.Prelude.{OnTrue, OnFalse, Joins, first_answer, run_len};
 ghost use Rattle.std.specs.Prelude.{◌≡◌, ◌+◌, ◌==◌};
 
 use dm_stack::DiskId;
 
-/// What `len` consecutive sectors of a request answered. Starts and lengths are in sectors of 512 bytes.
+/// The answers of `len` consecutive sectors of a request. Starts and lengths are in sectors of 512 bytes.
 #[derive(Clone, Copy, Debug, PartialEq, Eq, Drop)]
 pub enum ValueRun {
-    /// What the sectors of a disk from `start` on held at the start of the replay.
+    /// The values that the sectors of a disk from `start` on held when the replay started.
     Old { disk: DiskId, start: u64, len: u64 },
-    /// What a request wrote to the sectors of its device from `start` on.
+    /// The values that a request wrote to the sectors of its device from `start` on.
     Wrote { request: u64, start: u64, len: u64 },
-    /// Zeros, or a write that was discarded.
+    /// Zeros that were read, or writes that were discarded.
     Zero { len: u64 },
-    /// No value: the sectors failed.
+    /// No values, because the sectors failed.
     Error { len: u64 },
 }
 
 impl ValueRun {
-    /// How many sectors the run has.
+    /// The length of the run in sectors.
     pub(crate) fn len(&self) -> u64
         ensures { result ≡ run_len self.now }
     {
@@ -31,7 +31,7 @@ impl ValueRun {
         }
     }
 
-    /// The run with another length.
+    /// The run with the same first answer and the length `len`.
     pub(crate) fn with_len(self, len: u64) -> ValueRun
         ensures first { first_answer result ≡ first_answer self }
         ensures len { run_len result ≡ len }
@@ -48,7 +48,7 @@ impl ValueRun {
         }
     }
 
-    /// Whether another run continues this one.
+    /// Whether the run `after` continues this one.
     pub(crate) fn joins(&self, after: &ValueRun) -> bool
         ensures joins { OnTrue result (Joins self.now after.now) }
         ensures apart { OnFalse result (Joins self.now after.now → ⊥) }
@@ -70,7 +70,7 @@ impl ValueRun {
     }
 }
 
-/// Whether `next` is the sector after `len` sectors from `start` on.
+/// Whether `next` is the sector right after the `len` sectors that begin at `start`.
 fn follows(start: u64, len: u64, next: u64) -> bool
     ensures { result ≡ (start + len == next) }
 {

@@ -1,4 +1,4 @@
-//! Consecutive runs, each as long as it can be.
+//! Consecutive runs of answers, each as long as possible.
 
 ghost use Rattle.dm_replay.specs.Prelude.{[], OnOk, AreMaximal, flat, run_answers, run_len};
 ghost use Rattle.std.specs.Prelude.{◌≡◌, ◌<◌, ◌++◌};
@@ -25,7 +25,7 @@ impl Model for ValueRuns {
 }
 
 impl ValueRuns {
-    /// No runs. Allocates nothing.
+    /// A `ValueRuns` without runs. Allocates nothing.
     pub(crate) fn new(alloc: Global) -> ValueRuns
         ensures { result ≡ [] }
     {
@@ -34,11 +34,11 @@ impl ValueRuns {
         }
     }
 
-    /// Adds a run at the end: joins it to the last run if it continues that.
+    /// Adds a run at the end. If it continues the last run, the two become one.
     ///
     /// # Errors
     ///
-    /// `AllocError` when out of memory, or if the last run would have 2^64 sectors or more.
+    /// `AllocError` when out of memory, or if the joined run would have 2^64 sectors or more.
     pub(crate) fn add(&mut self, run: ValueRun) -> Result<(), AllocError>
         requires { 0 < run_len run }
         ensures { OnOk result (flat self.new ≡ flat self.old ++ run_answers run) }

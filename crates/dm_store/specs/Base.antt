@@ -1,4 +1,4 @@
--- Names of std and of lower crates that the specs of dm_store import, gathered in one module.
+-- Names of std and of lower crates that the specs of dm_store import, re-exported from one place.
 pub use Rattle.dm_map.specs.Prelude.{AreExact, AreOwn, Asked, Due, GoOn, HaveSameData, IsAmple, IsFitting, IsIntact, IsOfSnapshot, IsOwnAt, IsWithinPlaces, Moment, State, Taken, TookOwn, Values, after_asked, has_room, home, lost, none_taken, number_in, put, rows_in, snapshot_at, start_state, taken_at, with_chunk, with_looked}
 unfoldable pub use Rattle.dm_map.specs.Prelude.{played, take_chunks}
 pub use Rattle.dm_stack.specs.Prelude.{Description, IsMemoryFault, IsSnapshot, IsStore, IsTidy, IsTop, device_len, first_fault, is_same, lower_len, name_at, path_faults, place, place_count, unless}

@@ -1,8 +1,8 @@
--- The message for a store that is refused.
+-- The message for a refused store.
 use Rattle.dm_store.specs.Base.{ℕ, List, codes, Order, Range, Again, Missing, Read, StoreFault, Unread, Magic, Version, Chunk, Gap, Listed}
 use Rattle.std.specs.Prelude.{◌++◌}
 
--- the word that a message uses for a fault
+-- the word for a fault in messages
 abbrev pub fault_word : StoreFault → List ℕ
 fault_word (Unread Missing) = codes "missing"
 fault_word (Unread Read) = codes "read"
@@ -14,6 +14,6 @@ fault_word (Listed Order) = codes "order"
 fault_word (Listed Range) = codes "range"
 fault_word (Listed Again) = codes "again"
 
--- the message's line, with the name of the store's snapshot and the word for the fault
+-- the message: a line with the name of the store's snapshot and the word for the fault
 abbrev pub store_message : (name : List ℕ) → StoreFault → List ℕ
 store_message name fault = codes "dmremap: store " ++ name ++ codes ": " ++ fault_word fault ++ codes "\n"

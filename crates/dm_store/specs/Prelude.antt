@@ -1,4 +1,4 @@
--- Names that contracts import, in dm_store and in the crates above it, gathered in one module.
+-- Names that contracts of dm_store and of crates above it import, re-exported from one place.
 pub use Rattle.dm_store.specs.Base.{AreRead, Chunk, Description, Err, Gap, GoOn, IfErr, IfNone, IfOk, IfSome, IsMemoryFault, IsSnapshot, IsWithinPlaces, List, ListFault, Listed, Magic, Missing, None, Ok, OnErr, OnOk, Order, Pair, Persistent, Range, ResolvedSnapshot, SectorFault, Some, Store, StoreFault, Transient, Unread, Version, [], find, four_at, home, is_same, is_some, length, map, name_at, none_taken, number_in, option_map, put, sector_in, slice_range, start_state, string_bytes, taken_at, true, with_chunk, with_looked, ℕ}
 pub use Rattle.dm_store.specs.Fitting.{AlwaysFit, AlwaysHaveRows, AlwaysStart, Fit, IsLostInStore, IsStart}
 pub use Rattle.dm_store.specs.ImageList.{image_in, images_of}

@@ -1,9 +1,9 @@
-//! A read of an image, as a log of reads stores it.
+//! A read of an image, as an entry in a log of reads.
 
 use crate::images::ReadFault;
 
-/// A read of sectors from `sector` on: the image's line in the list, the length of its path in bytes, the bytes
-/// asked for, and whether the read succeeded.
+/// A read of sectors from `sector` on: the number of the image's line in the list, the length of its path in bytes, how
+/// many bytes were asked for, and whether the read succeeded.
 #[derive(Clone, Copy, Debug, Drop)]
 pub struct Asked {
     pub line: u64,

@@ -1,4 +1,4 @@
-//! Which image file each disk of a stack is in.
+//! The image files in which the disks of a stack are.
 
 ghost use Rattle.dm_store.specs.Prelude.{None, Some, IfNone, IfSome, length, AreRead, Contents, disk_contents, place_of};
 ghost use Rattle.dm_table.specs.declared.io.sectors.TheConstants.{MOST_BYTES, SECTOR};
@@ -10,7 +10,7 @@ use crate::images::{Images, ReadFault, read_extent};
 use dm_stack::DiskId;
 use std::marker::Model;
 
-/// For each disk of a stack, by its id, the image that it is in, if there is one.
+/// For each disk of a stack, by its id, the image in which it is, if there is one.
 #[derive(Debug, Drop)]
 pub struct DiskImages {
     places: Vec<Option<ImagePlace>>,
@@ -26,14 +26,14 @@ impl Model for DiskImages {
 }
 
 impl DiskImages {
-    /// Makes a value from the images of all disks, in the order of their ids. No memory is allocated.
+    /// The images of all disks, in the order of the disks' ids. Allocates nothing.
     pub(crate) fn of_places(places: Vec<Option<ImagePlace>>) -> DiskImages
         ensures { result ≡ places.items }
     {
         DiskImages { places }
     }
 
-    /// The image that a disk is in, if there is one.
+    /// The image in which a disk is, if there is one.
     fn place(&self, disk: DiskId) -> Option<&ImagePlace>
         ensures some { IfSome result (λ place. place_of self.now disk ≡ Some place.now) }
         ensures none { IfNone result (place_of self.now disk ≡ None) }
@@ -44,7 +44,7 @@ impl DiskImages {
         }
     }
 
-    /// Reads whole sectors of a disk, from `sector` on. After a fault, `into` may hold anything.
+    /// Reads whole sectors of a disk, from `sector` on, until `into` is full. After a fault, `into` may hold anything.
     pub fn read<I: Images>(
         &self,
         images: &mut I,

@@ -7,24 +7,24 @@ ghost use Rattle.std.specs.Prelude.{◌≡◌};
 use crate::fault::StoreFault;
 use dm_table::four_at;
 
-/// The first number of a header: the bytes `SnAp`.
+/// The first number in the header of a store: the bytes `SnAp`.
 const MAGIC: u32 = 0x7041_6e53;
 
-/// The only version of the format that is read.
+/// The only version of the store's format that is accepted.
 const VERSION: u32 = 1;
 
-/// What a header says about its store.
+/// How a store is used, according to its header.
 #[derive(Clone, Copy, Debug, PartialEq, Eq, Drop)]
 pub(crate) enum Header {
-    /// Nothing was written to the store yet.
+    /// Nothing has been written to the store yet.
     Fresh,
     /// The snapshot is lost.
     Lost,
-    /// The store is in use and has a list.
+    /// The store is in use, and has a list.
     Used,
 }
 
-/// Reads a header sector, for a store with this chunk size in the table.
+/// Reads the header sector of a store whose chunk size in the table is `chunk` sectors.
 pub(crate) fn read_header(sector: &[u8], chunk: u64) -> Result<Header, StoreFault>
     requires { length sector.now ≡ SECTOR }
     ensures { (used : Stored) → told_header used result ≡ by_header used chunk (Ok sector.now) }

@@ -1,4 +1,4 @@
-//! The images of a stack's disks, as a list of paths gives them.
+//! The images of a stack's disks, from a list of paths.
 
 ghost use Rattle.dm_store.specs.Prelude.{IfErr, IfOk, Ok, Err, find, map, option_map, IsMemoryFault, is_same, image_in, images_of};
 ghost use Rattle.dm_table.specs.declared.load.load_fault.LoadKind.TheVariants.{Memory};
@@ -11,15 +11,14 @@ use dm_stack::{Stack, check_paths};
 use dm_table::{DiskPath, LoadFault, Part, are_same};
 use std::alloc::{AllocError, Global};
 
-/// Looks up the image of each disk in a list of paths; a disk without a path is in no image.
+/// Looks up the image of each disk in a list of paths. A disk without a path has no image.
 ///
-/// Cost: near-linear in the paths, and one comparison for each pair of a path and a disk, with memory for a copy
-/// of each path.
+/// Cost: near-linear in the number of paths, plus one comparison for each path and disk. Memory: a copy of each path.
 ///
 /// # Errors
 ///
-/// `Twice` at the first path for a disk that an earlier path is for; else `Unknown` at the first path for a disk
-/// that the stack doesn't have. `Memory`, with the number 0, if memory ran out.
+/// `Twice` at the first path whose disk already has a path; otherwise `Unknown` at the first path whose disk isn't in
+/// the stack. `Memory`, with the number 0, if memory ran out.
 pub fn listed_images(
     alloc: Global,
     stack: &Stack,
@@ -36,7 +35,7 @@ pub fn listed_images(
     }
 }
 
-/// The image of each disk, in the order of the stack.
+/// The images of all disks, in the order of the stack's disks.
 fn places_in(
     alloc: Global,
     stack: &Stack,
@@ -51,7 +50,7 @@ fn places_in(
     Ok(places)
 }
 
-/// The image of the disk with this name, if a path in the list is for it.
+/// The image of the disk with this name; None if the list has no path for the disk.
 fn image_in(alloc: Global, paths: &[DiskPath], name: &str) -> Result<Option<ImagePlace>, AllocError>
     ensures { IfOk result (λ image. image ≡ image_in paths.now name.now) }
 {

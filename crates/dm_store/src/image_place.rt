@@ -1,4 +1,4 @@
-//! Where in an image file a disk is.
+//! The place of a disk in an image file.
 
 ghost use Rattle.dm_store.specs.Prelude.{string_bytes};
 ghost use Rattle.std.specs.Prelude.{◌≡◌};
@@ -6,8 +6,8 @@ ghost use Rattle.std.specs.Prelude.{◌≡◌};
 use dm_table::FileExtent;
 use std::marker::Model;
 
-/// An image that has a disk, the sectors of it that the disk has, and the line of its list that names it. A clause
-/// sees the line, the bytes of the path, and the extent.
+/// The image in which a disk is, the sectors of the image that belong to the disk, and the line of the list with the
+/// image's path. In contracts, the value is the line, the bytes of the path, and the extent.
 #[derive(Debug, Drop)]
 pub struct ImagePlace {
     path: String,
@@ -25,14 +25,14 @@ impl Model for ImagePlace {
 }
 
 impl ImagePlace {
-    /// An extent of the image at a path, by this line. No memory is taken.
+    /// An extent of the image with this path, which is in this line of the list. Allocates nothing.
     pub(crate) fn new(path: String, extent: FileExtent, line: u64) -> ImagePlace
         ensures { result ≡ record { line = line; path = string_bytes path; extent = extent } }
     {
         ImagePlace { path, extent, line }
     }
 
-    /// The line of the list of paths that gives the image.
+    /// The number of the line in the list of paths that gives the image.
     pub(crate) fn line(&self) -> u64
         ensures { result ≡ self.now.line }
     {
@@ -46,7 +46,7 @@ impl ImagePlace {
         self.path.as_str()
     }
 
-    /// The sectors of the image that the disk has.
+    /// The sectors of the image that belong to the disk.
     pub(crate) fn extent(&self) -> FileExtent
         ensures { result ≡ self.now.extent }
     {

@@ -1,8 +1,7 @@
 //! Images of disks: files, or parts of files, that are read in sectors of 512 bytes.
 //!
-//! What images hold isn't known beforehand. So contracts say which contents agree with all reads so far: exactly
-//! those that agree with each of them. If an image returns other bytes for a sector than before, no contents
-//! agree.
+//! It isn't known in advance what images contain. So contracts are about all contents that agree with every read so
+//! far. If a read returns other bytes for a sector than an earlier read did, no contents agree.
 
 ghost use Rattle.dm_store.specs.Base.{AreRead, length};
 ghost use Rattle.dm_store.specs.Images.{Contents, in_extent};
@@ -12,14 +11,14 @@ ghost use Rattle.std.specs.Prelude.{◌≡◌, ◌<◌, ◌≤◌, ◌%◌, ◌^
 use dm_table::FileExtent;
 pub use dm_table::{MOST_BYTES, ReadFault, SECTOR};
 
-/// Gives access to images, each named by its line in a list and its path.
+/// Reads images, each of which is identified by its line in a list and its path.
 pub trait Images {
-    /// Says which contents of all images agree with the reads so far. Before the first read all contents do, as
-    /// the maker of images promises; or, if the contents are known, only these do.
+    /// The contents of all images agree with the reads so far. Before the first read, all contents do, or only the
+    /// actual ones if these are known; whoever makes the value ensures that.
     ghost IsSeen: { Self → Contents → Type 0 };
 
-    /// Reads whole sectors of the image at this path, from `sector` on. The line of the path in its list tells
-    /// images apart, so that each can be opened once. After a fault, `into` may hold anything.
+    /// Reads whole sectors of the image with this path, from `sector` on. The line in the list identifies the image, so
+    /// each image can be opened only once. After a fault, `into` may hold anything.
     fn read(&mut self, line: u64, path: &str, sector: u64, into: &mut [u8]) -> Result<(), ReadFault>
         requires whole { length into.old % SECTOR ≡ 0 }
         requires some { SECTOR ≤ length into.old }
@@ -32,8 +31,8 @@ pub trait Images {
             → AreRead (held line path.now) sector result into.new → IsSeen self.new held };
 }
 
-/// Reads whole sectors of an extent of an image, from a sector of the extent on: none past its end. After a fault
-/// the slice may hold anything.
+/// Reads whole sectors of an extent of an image, where `sector` counts from the start of the extent. Fails if the read
+/// passes the end of the extent. After a fault, `into` may hold anything.
 pub fn read_extent<I: Images>(
     images: &mut I,
     line: u64,

@@ -1,9 +1,9 @@
-//! Where an exception store keeps its list.
+//! The sectors in which an exception store keeps its list.
 
 ghost use Rattle.dm_store.specs.Prelude.{pair_count, rest_count, row_sector};
 ghost use Rattle.std.specs.Prelude.{◌≡◌, ◌+◌, ◌<◌, ◌≤◌, ◌^◌};
 
-/// The number of pairs that the metadata areas of a store of this length can hold.
+/// How many pairs fit into the metadata areas of a store of `store_len` sectors.
 pub(crate) fn pair_count(chunk: u64, store_len: u64) -> u64
     requires some { 1 ≤ chunk }
     requires small { chunk ≤ 1024 }
@@ -14,7 +14,7 @@ pub(crate) fn pair_count(chunk: u64, store_len: u64) -> u64
     (store_len / chunk + 32 * chunk - 1) / (32 * chunk + 1) * (32 * chunk)
 }
 
-/// The number of pairs from this one to the end of its metadata area.
+/// The number of pairs from pair `number` on to the end of its metadata area, including that pair.
 pub(crate) fn rest_count(chunk: u64, number: u64) -> u64
     requires some { 1 ≤ chunk }
     requires small { chunk ≤ 1024 }
@@ -24,7 +24,7 @@ pub(crate) fn rest_count(chunk: u64, number: u64) -> u64
     32 * chunk - number % (32 * chunk)
 }
 
-/// The sector of the store with this row of the list, which holds the 32 pairs from 32 * row on.
+/// The sector of the store with row `row` of the list, which contains the 32 pairs from number 32 * `row` on.
 pub(crate) fn row_sector(chunk: u64, row: u64) -> u64
     requires some { 1 ≤ chunk }
     requires small { chunk ≤ 1024 }

@@ -1,7 +1,7 @@
-//! Reads what the exception stores of snapshots hold, from images of disks.
+//! Reads the contents of snapshots' exception stores from images of disks.
 //!
-//! `specs/Stored.antt` defines what a store holds, by its sectors, and `specs/Start.antt` the state that a
-//! stack's stores hold. `read_stores` brings a mapper into that state.
+//! `specs/Stored.antt` defines what a store with given sectors holds, and `specs/Start.antt` the state that all stores
+//! of a stack hold. `read_stores` brings a mapper into that state.
 #![tactic(auto)]
 
 mod asked;

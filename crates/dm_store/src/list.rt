@@ -1,7 +1,7 @@
-//! The list of a store, read pair by pair up to the first free one, and then to the end of the metadata area.
+//! Reads the list of a store pair by pair, up to the first free pair, and then to the end of the metadata area.
 //!
-//! A list with a fault is still read to its end, since the fault to report is the first in the order `Order`,
-//! `Range`, `Again`, and comes after any fault of the sectors that hold or end the list.
+//! A list with a faulty pair is still read to its end, because a sector that can't be read is reported first. Of the
+//! faults of pairs, `Order` is reported first, then `Range`, then `Again`.
 
 ghost use Rattle.dm_store.specs.Prelude.{List, None, OnOk, is_some, length, true, ℕ, with_looked, number_in, none_taken, put, taken_at, with_chunk, Contents, disk_contents, pair_count, HasRows, IsStoreIn, IsStoreOf, next_fault, told_list, store_sectors, Holds, ended, is_near, is_placed, listed, of_list};
 ghost use Rattle.dm_table.specs.declared.io.sectors.TheConstants.{MOST_BYTES};
@@ -19,7 +19,7 @@ use dm_map::{Mapper, Taken};
 use dm_stack::{DeviceId, place};
 use dm_table::StoreKind;
 
-/// Takes the chunk of a pair, unless this pair or an earlier one has a fault; returns the list's fault so far.
+/// Takes the chunk of a pair, unless this or an earlier pair is faulty. Returns the fault of the list so far, if any.
 fn take_listed<T: Taken>(
     mapper: &mut Mapper<'_, T>,
     device: DeviceId,
@@ -56,7 +56,7 @@ fn take_listed<T: Taken>(
     }
 }
 
-/// The result for a list that was read to its end, by the fault of its pairs.
+/// The result for a list that was read to its end, given the fault of its pairs, if any.
 fn list_result(fault: Option<ListFault>) -> Result<(), StoreFault>
     ensures list { (chunks : List ℕ) → told_list result (Holds chunks) ≡ of_list fault chunks }
     ensures none { OnOk result (fault ≡ None) }
@@ -67,8 +67,8 @@ fn list_result(fault: Option<ListFault>) -> Result<(), StoreFault>
     }
 }
 
-/// Ends a list before the pair with this number: that pair and all after it in its area must be zero. `fault` is
-/// the fault of the list's pairs.
+/// Checks the end of a list: the pair with this number and all later ones in its metadata area must be zero. `fault` is
+/// the fault of the pairs before.
 fn end_list<I: Images, T: Taken>(
     images: &mut I,
     places: &DiskImages,
@@ -106,7 +106,7 @@ fn end_list<I: Images, T: Taken>(
     list_result(fault)
 }
 
-/// Reads the list of a store into the mapper, for a snapshot that has taken nothing yet.
+/// Reads the list of a store into the mapper. The snapshot must not have taken any chunks yet.
 pub(crate) fn read_list<I: Images, T: Taken>(
     images: &mut I,
     places: &DiskImages,

@@ -1,4 +1,4 @@
-//! Images in memory for tests, which can fail after a number of reads.
+//! Images in memory, for tests. They can fail after a number of reads.
 
 ghost use Rattle.dm_store.specs.Prelude.{OnErr, OnOk, length, slice_range, Contents, AgreesWith};
 ghost use Rattle.dm_table.specs.declared.io.sectors.TheConstants.{SECTOR};
@@ -7,7 +7,7 @@ ghost use Rattle.std.specs.Prelude.{◌≡◌, ◌+◌, ◌*◌, ◌<◌};
 use crate::images::{Images, ReadFault, SECTOR};
 use crate::read_log::ReadLog;
 
-/// Files in memory, by their paths. The first `left` reads are answered, and every later one fails.
+/// Files in memory, found by their paths. The first `left` reads are answered; all later ones fail.
 #[derive(Drop)]
 pub struct MemoryImages<'a> {
     files: &'a [(&'a str, &'a [u8])],
@@ -16,7 +16,7 @@ pub struct MemoryImages<'a> {
 }
 
 impl<'a> MemoryImages<'a> {
-    /// Images of these files, with no read made yet.
+    /// Images with the contents of these files. No read has been made yet.
     pub fn new(files: &'a [(&'a str, &'a [u8])], left: usize) -> MemoryImages<'a>
         ensures { (held : Contents) → ⟦<MemoryImages<'a> as Images>⟧.IsSeen result held }
     {
@@ -28,7 +28,7 @@ impl<'a> MemoryImages<'a> {
     }
 }
 
-/// Reads sectors of the file at this path; fails if the file ends before, or there is none.
+/// Reads sectors of the file with this path. Fails if the file ends before, or if there is no such file.
 fn bytes_at(
     files: &[(&str, &[u8])],
     path: &str,
@@ -43,7 +43,7 @@ fn bytes_at(
     Err(ReadFault)
 }
 
-/// Reads sectors of a file if any reads are left to be answered; else fails.
+/// Reads sectors of a file if `left` isn't 0, and fails otherwise.
 fn answered(
     left: usize,
     files: &[(&str, &[u8])],
@@ -57,7 +57,7 @@ fn answered(
     bytes_at(files, path, sector, into)
 }
 
-/// Copies sectors from `sector` on, if the file has all of them.
+/// Copies sectors from `sector` on. Fails if the file doesn't have all of them.
 fn copied(bytes: &[u8], sector: u64, into: &mut [u8]) -> Result<(), ReadFault>
     ensures read { OnOk result (into.new
         ≡ slice_range bytes.now (SECTOR * sector) (SECTOR * sector + length into.old)) }

@@ -1,6 +1,6 @@
 //! The message for a refused store, which is one line.
 //!
-//! The words are fixed in `specs/Message.antt`, because users match on them.
+//! `specs/Message.antt` fixes the words, because users match on them.
 
 ghost use Rattle.dm_store.specs.Prelude.{length, name_at, fault_word, store_message};
 ghost use Rattle.std.specs.Prelude.{◌≡◌, ◌<◌, ◌≤◌};
@@ -10,11 +10,11 @@ use arrayvec::ArrayVec;
 use dm_stack::Stack;
 use dm_table::append;
 
-/// The message for a refused store, of at most 152 bytes with its newline.
+/// The message for a refused store: at most 152 bytes, including the newline.
 pub type StoreMessage = ArrayVec<u8, 152>;
 
 impl StoreFault {
-    /// The word that messages use for the fault.
+    /// The word for this fault in messages.
     fn word(self) -> &'static str
         ensures word { result.now ≡ fault_word self }
         ensures short { length result.now ≤ 7 }
@@ -34,7 +34,7 @@ impl StoreFault {
 }
 
 impl StoreRefusal {
-    /// The message's line, with the snapshot's name and the word for the fault. No memory is allocated.
+    /// The message: a line with the snapshot's name and the word for the fault. Allocates nothing.
     pub fn message(self, stack: &Stack) -> StoreMessage
         requires { self.snapshot < length stack.now.devices }
         ensures { result.items ≡ store_message (name_at stack.now self.snapshot) self.fault }

@@ -1,4 +1,4 @@
-//! Pairs of a list: a chunk of the snapshot, and the chunk of the store that holds it.
+//! Pairs in a list: a chunk of the snapshot, and the chunk of the store that has its data.
 
 ghost use Rattle.dm_store.specs.Prelude.{length, pair_in, are_zeros};
 ghost use Rattle.dm_table.specs.declared.io.sectors.TheConstants.{SECTOR};
@@ -6,7 +6,7 @@ ghost use Rattle.std.specs.Prelude.{◌≡◌, ◌<◌};
 
 use dm_table::eight_at;
 
-/// A chunk of a snapshot (`old`), and the chunk of its store that holds it (`new`).
+/// A chunk of a snapshot (`old`), and the chunk of its store that has the data (`new`).
 #[derive(Clone, Copy, Debug, Drop)]
 pub(crate) struct Pair {
     pub(crate) old: u64,
@@ -14,7 +14,7 @@ pub(crate) struct Pair {
 }
 
 impl Pair {
-    /// Whether both chunks are 0.
+    /// Whether both chunks of the pair are 0.
     pub(crate) fn are_zeros(self) -> bool
         ensures { result ≡ are_zeros self }
     {
@@ -22,10 +22,10 @@ impl Pair {
     }
 }
 
-/// How many pairs are in one sector of the list.
+/// How many pairs are in each sector of the list.
 pub(crate) const ROW: u64 = 32;
 
-/// The pair with this index in a sector of the list.
+/// The pair at this index in a sector of the list.
 #[inline(always)]
 pub(crate) fn pair_at(sector: &[u8], index: usize) -> Pair
     requires len { length sector.now ≡ SECTOR }

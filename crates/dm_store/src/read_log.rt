@@ -1,6 +1,6 @@
-//! A log of reads that exists for proofs only, and uses no memory or time.
+//! A log of reads that exists only for proofs. It needs no memory and no time.
 //!
-//! Contents of real images can't be known otherwise. An `impl Images` must note each read when it returns.
+//! The contents of real images are known only through such a log. An `impl Images` must note each read when it returns.
 
 ghost use Rattle.dm_store.specs.Prelude.{[], length, AreRead, Contents, AgreesWith};
 ghost use Rattle.std.specs.Prelude.{◌≡◌, ◌↔◌};
@@ -10,7 +10,7 @@ use crate::images::ReadFault;
 use dm_table::GhostList;
 use std::marker::Model;
 
-/// All reads of images so far. Contracts see what was asked and what was returned.
+/// All reads of images so far. In contracts, the value is what was asked for and what was returned.
 #[derive(Drop)]
 pub struct ReadLog {
     asked: GhostList<Asked>,
@@ -32,7 +32,7 @@ impl Model for ReadLog {
 }
 
 impl ReadLog {
-    /// A log without reads, which all contents agree with.
+    /// A log without reads. All contents of images agree with it.
     pub fn new() -> ReadLog
         ensures asked { result.asked ≡ [] }
         ensures paths { result.paths ≡ [] }
@@ -46,7 +46,7 @@ impl ReadLog {
         }
     }
 
-    /// Notes the result of a read of the image with this line and path.
+    /// Notes a read of the image with this line and path, and the result.
     pub fn note(
         &mut self,
         line: u64,

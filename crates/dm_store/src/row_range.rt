@@ -1,19 +1,19 @@
-//! Which rows of a list were read last.
+//! The rows of a list that were read last.
 
 ghost use Rattle.std.specs.Prelude.{◌≡◌, ◌≤◌};
 
-/// Rows of a list, one sector each: `count` of them, from `first` on.
+/// Consecutive rows of a list, `count` of them from `first` on. Each row is one sector.
 #[derive(Clone, Copy, Debug, Drop)]
 pub(crate) struct RowRange {
     pub(crate) first: u64,
     pub(crate) count: u64,
-    /// Rows before this one are read one by one, because a block that includes some of them failed.
+    /// Rows below `single` are read one by one, because reading them together failed.
     pub(crate) single: u64,
     ghost few: { count ≤ 128 },
 }
 
 impl RowRange {
-    /// An empty range of rows.
+    /// A range without rows.
     pub(crate) fn none() -> RowRange
         ensures { result.count ≡ 0 }
     {

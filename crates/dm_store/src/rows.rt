@@ -1,7 +1,7 @@
-//! Rows of a list, read from images in blocks.
+//! Rows of a list, which are read from images in blocks.
 //!
-//! A block of rows is read at once, as far as its sectors lie in a row on a disk. If that fails, its rows are
-//! read one by one, up to the first that can't be read.
+//! A block of rows is read at once, as far as its sectors are consecutive on a disk. If that fails, its rows are read
+//! one by one, up to the first one that can't be read.
 
 ghost use Rattle.dm_store.specs.Prelude.{ℕ, Err, Ok, IfErr, IfOk, OnOk, length, with_looked, GoOn, home, Description, Contents, disk_contents, sector_in, area_count, pair_count, row_sector, HasRead, HasRows, IsRowOf, IsStoreIn, store_sectors};
 ghost use Rattle.dm_table.specs.declared.io.sectors.TheConstants.{MOST_BYTES};
@@ -17,10 +17,10 @@ use crate::store::Store;
 use dm_map::{HomeStretch, Mapper, Taken};
 use dm_stack::DiskId;
 
-/// The most rows in a block.
+/// The maximum number of rows in a block.
 const MOST_ROWS: u64 = 128;
 
-/// Reads sectors that lie in a row on a disk, to the front of a block.
+/// Reads `count` consecutive sectors of a disk into the front of a block.
 fn read_sectors<I: Images>(
     images: &mut I,
     places: &DiskImages,
@@ -43,7 +43,7 @@ fn read_sectors<I: Images>(
     places.read(images, disk, start, &mut block[..len])
 }
 
-/// Reads a single row, from the sector `start` of a disk, to the front of a block.
+/// Reads a single row, which is in sector `start` of a disk, into the front of a block.
 fn read_row<I: Images>(
     images: &mut I,
     places: &DiskImages,
@@ -72,8 +72,8 @@ fn read_row<I: Images>(
     }
 }
 
-/// Reads rows from this one on to a block, at most to the end of the area: as many as lie in a row on a disk, or
-/// only this one if that fails. Rows before `single` are read one by one.
+/// Reads rows from `row` on into a block: as many as are consecutive on a disk, but at most to the end of the area, or
+/// only one if reading them together fails. Rows below `single` are read one by one.
 fn read_block<I: Images, T: Taken>(
     images: &mut I,
     places: &DiskImages,
@@ -116,7 +116,7 @@ fn read_block<I: Images, T: Taken>(
     }
 }
 
-/// How many rows are read at once from this one on: at most to the end of its area.
+/// How many rows to read at once from `row` on: none past the end of its area, and one if `row` is below `single`.
 fn rows_from(chunk: u64, row: u64, single: u64) -> u64
     requires { 1 ≤ chunk }
     ensures some { 1 ≤ result }
@@ -130,7 +130,7 @@ fn rows_from(chunk: u64, row: u64, single: u64) -> u64
     }
 }
 
-/// Reads the pair with this number. Reads a new block of rows, unless the last one read has the pair's row.
+/// Reads the pair with this number. Reads a new block of rows, unless the block already has the pair's row.
 pub(crate) fn read_pair<I: Images, T: Taken>(
     images: &mut I,
     places: &DiskImages,

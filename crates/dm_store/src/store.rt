@@ -1,18 +1,18 @@
-//! An exception store with its layout, for the reader of stores.
+//! An exception store that is to be read, and its layout.
 
 use dm_stack::{ChunkSize, Lower};
 
-/// The store of a snapshot, of a kind that keeps a list.
+/// The exception store of a snapshot. It is of a kind that keeps a list.
 #[derive(Clone, Copy, Debug, Drop)]
 pub struct Store {
-    /// The device or disk that is the store.
+    /// The device or disk on which the store is.
     pub lower: Lower,
-    /// The chunk size of the snapshot and its store.
+    /// The chunk size, which the snapshot and its store share.
     pub chunk: ChunkSize,
     /// The length of the store in sectors.
     pub len: u64,
-    /// How many taken chunks the store has room for.
+    /// How many chunks the snapshot can take before its store is full.
     pub places: u64,
-    /// The last chunk of the snapshot's device.
+    /// The number of the last chunk of the snapshot's device.
     pub last: u64,
 }

@@ -1,4 +1,4 @@
-//! Reads the state that a stack's stores hold into a mapper.
+//! Reads the state that a stack's exception stores hold into a mapper.
 
 ghost use Rattle.dm_store.specs.Prelude.{IfErr, OnOk, length, with_looked, IsWithinPlaces, none_taken, put, start_state, taken_at, IsSnapshot, Contents, disk_contents, IsStoreIn, IsStoreOf, told, told_header, start_of, store_sectors, stored_state, taken_in, Stored, by_header, stored};
 ghost use Rattle.std.specs.Prelude.{◌≡◌, ◌<◌};
@@ -38,7 +38,7 @@ fn header_of<I: Images, T: Taken>(
     }
 }
 
-/// Reads a store into the mapper, for a snapshot that has taken nothing yet.
+/// Reads a store into the mapper. The snapshot must not have taken any chunks yet.
 fn read_store<I: Images, T: Taken>(
     images: &mut I,
     places: &DiskImages,
@@ -95,16 +95,16 @@ fn read_snapshot<I: Images, T: Taken>(
     }
 }
 
-/// Reads the store of each snapshot of a stack into a new mapper, which is then in the state that the stores
-/// hold. Snapshots are read in the order of the tables, up to the first refusal.
+/// Reads the stores of all snapshots of a stack into a new mapper, which is then in the state that the stores hold.
+/// Snapshots are read in the order of the tables, up to the first that is refused.
 ///
-/// Of each store, the header and the list are read, the list to the end of the metadata area with its first free
-/// pair, in blocks of at most 64 KiB. No memory is allocated. Cost: linear in the pairs, with one look-up of a
-/// chunk for each.
+/// Reads the header of each store and its list, up to the end of the metadata area that has the first free pair, in
+/// blocks of at most 64 KiB. Allocates nothing. Cost: linear in the number of pairs, with one look-up of a chunk for
+/// each pair.
 ///
 /// # Errors
 ///
-/// The first snapshot whose store is refused, and why. The mapper's state is then unspecified.
+/// The first snapshot whose store is refused, and why. The state of the mapper is then unspecified.
 pub fn read_stores<I: Images, T: Taken>(
     images: &mut I,
     places: &DiskImages,

@@ -1,4 +1,4 @@
--- Names that contracts cite, here and in crates above, re-exported from one place.
+-- Names that contracts of this crate and of crates above cite, re-exported from one place.
 pub use Rattle.dm_stream.specs.Base.{BadRequest, BlockUnit, CopyOf, Description, Done, Ending, FillOf, HasRead, HasWritten, HasWrittenTo, InputPast, IsClosedAfter, IsOnDisk, IsOnDisks, IsPut, IsReadOn, IsSameReference, IsSound, LiesOnDisk, Long, MapperView, MetNothing, NotMapped, Option, OutputPast, ReadFault, RequestWord, Stand, State, Unended, Unknown, WriteFault, Wrote, after_read, ap, append_assoc, code, delivery, device_len, disk_name_at, disk_unit, diskless_len, fault_of, first_unit, given, name_at, parts_at, piece_len, refl, since, since-same, since_more, sym, units_in, units_of, with_looked, written_since, written_to_more, written_to_none, ◌∙◌}
 pub use Rattle.dm_stream.specs.declared.pieces.disk_range.DiskRange.{DiskRange}
 pub use Rattle.dm_stream.specs.declared.requests.front.Front.{Front}

@@ -1,4 +1,4 @@
--- The fewest pieces that cover units, and their lines.
+-- The fewest pieces that cover given units, and the lines of these pieces.
 pub mod DiskText
 pub mod Join
 pub mod LineEnds

@@ -1,4 +1,4 @@
--- The lines of what an input delivered, and their requests.
+-- The lines in the bytes that an input delivered, and the requests in these lines.
 pub mod Batch
 pub mod Lines
 pub mod NextHeld

@@ -1,4 +1,4 @@
--- What a run writes and leaves, how it ends, and the message about that.
+-- What a run writes, the state it leaves, how it ends, and its message.
 pub mod Earlier
 pub mod Mapped
 pub mod Messages

@@ -1,7 +1,7 @@
 //! Requests in, lines out: from the bytes of requests to the bytes of answers.
 //!
-//! Lines are found in whatever an input hands over, however its reads cut them. Each request is answered with the
-//! pieces of a mapper, which are joined and written. dm_map defines the units of a request; here they become text.
+//! Finds lines in an input, however its reads cut them. A mapper turns each request into pieces, which are joined and
+//! written as lines. dm_map defines the units of a request; this crate writes them as text.
 #![tactic(auto)]
 
 mod pieces;

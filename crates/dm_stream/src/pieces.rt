@@ -1,4 +1,4 @@
-//! Pieces out: joined, and written as lines.
+//! Pieces, joined and written as lines.
 
 pub mod disk_range;
 pub mod disk_text;

@@ -1,4 +1,4 @@
-//! Requests in: finds their lines in what an input delivers, and hands them to whoever answers them.
+//! Requests: their lines are found in what an input delivers, and handed to a handler.
 
 pub mod batch;
 pub mod exchange;

@@ -1,4 +1,4 @@
-//! Runs: the requests played before them, what they map, how they end, and the message about that.
+//! Runs: the requests played before a run, how a run maps requests and ends, and its message.
 
 pub mod closing;
 pub mod earlier;

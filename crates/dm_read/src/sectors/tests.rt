@@ -1,4 +1,4 @@
-//! Sectors of a device over images in memory, which end early or fail after some reads.
+//! Reads sectors of devices from images in memory, which end early or fail after some reads.
 
 use super::*;
 use crate::fault::ByteFault;
@@ -9,8 +9,8 @@ use dm_table::{ShortOut, parse_disks, parse_paths, parse_table};
 use std::alloc::Global;
 use std::process::Abort;
 
-/// A device on a disk whose image ends after 350 sectors, on zeros, on a disk without an image, and on errors; and
-/// one that reaches past the image's end.
+/// Device `a` is on a disk whose image ends after 350 sectors, on zeros, on a disk without an image, and on errors.
+/// Device `b` reaches past the end of that image.
 const TABLE: &str =
     "a: 0 300 linear sda 10\na: 300 8 zero\na: 308 4 linear sda 0\na: 312 1 linear sdb 0\na: 313 7 error\n\
     b: 0 400 linear sda 0\n";
@@ -21,8 +21,8 @@ const MISSING: ByteFault = ByteFault::Unread(SectorFault::Missing);
 
 const UNREAD: ByteFault = ByteFault::Unread(SectorFault::Read);
 
-/// A device and a range of it, how many reads succeed, which sectors of the image (or zeros, if None) are written and
-/// how many, and where the reading stops.
+/// A device, a start and a length, how many reads succeed, the expected sectors (from a sector of the image on, or
+/// zeros if None) with their number, and the sector and the reason where reading stops.
 static ROWS: [(
     &str,
     u64,
@@ -42,7 +42,7 @@ static ROWS: [(
     ("b", 340, 60, 99, &[(Some(84), 10)], Some((350, UNREAD))),
 ];
 
-/// The bytes of sectors: sector by sector, each filled with one byte that counts up from the first, or with zeros.
+/// The bytes of sectors: each is filled with one byte, which counts up from the first sector's, or with zeros if None.
 fn sectors_of(rt: &impl Abort, alloc: Global, parts: &[(Option<u8>, usize)]) -> Vec<u8> {
     let mut bytes = Vec::new(alloc);
     for (first, count) in parts {

@@ -1,4 +1,4 @@
--- The laws of a sink, for a halting player. They are here because its `impl` cites them.
+-- The laws of a sink, for a halting player. They are part of the specs, because the player's `impl` cites them.
 use Rattle.dm_replay.specs.Base.{ℕ, List, [], length, take, refl, sym, ap, subst, ◌∙◌, length-append, Description, BlockUnit}
 use Rattle.std.proofs.Common.{arith}
 use Rattle.std.proofs.Math.Seq.{take-append-add}

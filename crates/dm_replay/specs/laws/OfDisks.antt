@@ -1,4 +1,4 @@
--- Units on a stack's disks, in two parts. The law is here because a sink's `impl` cites it.
+-- If two lists of units name only disks below a number, so do both together. The law is part of the specs, because a sink's `impl` cites it.
 use Rattle.dm_replay.specs.Prelude.{ℕ, List, [], BlockUnit, AreUnitsOf}
 use Rattle.std.specs.Prelude.{◌∷◌, ◌++◌}
 

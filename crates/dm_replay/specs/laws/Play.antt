@@ -1,4 +1,4 @@
--- Laws of play: in parts, and on equal values. They are here because a sink's `impl` cites them.
+-- Laws of playing units: in two parts, and on equal values. They are part of the specs, because a sink's `impl` cites them.
 use Rattle.dm_replay.specs.Base.{ℕ, List, [], append_assoc, refl, sym, ap, ◌∙◌, append-nil, sector_after, sector_past, BlockUnit, ReadOf, past-append, unit_cong, Value, played as contents_played}
 use Rattle.dm_map.specs.laws.Contents.{played_cong as values_cong}
 use Rattle.dm_replay.specs.declared.playing.Playing.{Playing}
@@ -9,7 +9,7 @@ use Rattle.dm_replay.specs.Runs.{flat}
 use Rattle.dm_replay.specs.Values.{Answer, Gives, Values, played_unit, unit_answers, played, played_answers}
 use Rattle.std.specs.Prelude.{◌≡◌, ◌∷◌, ◌++◌}
 
--- the values are equal in every sector
+-- each sector of each disk has the same value in `values` and in `others`
 abbrev pub AreSame : Values → Values → Type 0
 AreSame values others = (disk sector : ℕ) → values disk sector ≡ others disk sector
 
@@ -42,7 +42,7 @@ answers-append request sector (unit ∷ units) more values =
     ap (λ (later : List Answer). unit_answers request sector unit values ++ later) (answers-append request (sector_after unit sector) units more rest)
     ∙ sym (append_assoc (unit_answers request sector unit values) (played_answers request (sector_after unit sector) units rest) (played_answers request (sector_past units (sector_after unit sector)) more (played request (sector_after unit sector) units rest)))
 
--- a player that plays nothing; below, one that plays units and then more of them
+-- playing no units changes nothing
 
 pub played_nothing : (a : Playing) → HasPlayed a [] a
 unfolding contents_played played_answers sector_past

@@ -1,7 +1,7 @@
-//! What replays answer, as the lines written for it, and why they don't answer.
+//! What replays answer, compared with expected lines, and why they refuse to.
 //!
-//! More rows of answers are tested on the built program (`tests/outside`). The expected answers were worked out
-//! sector by sector, by a plain program that follows the rules.
+//! `tests/outside` tests many more cases on the built program. The expected answers were worked out sector by sector,
+//! with a plain program that follows the rules.
 
 ghost use Rattle.dm_replay.specs.Prelude.{start_state};
 ghost use Rattle.std.specs.Prelude.{◌≡◌};
@@ -16,9 +16,9 @@ use stops::STOPS;
 
 mod stops;
 
-/// Tables, disks, requests, and the lines of their answers.
+/// A table, disks, requests, and the lines of the answers.
 static ROWS: [(&str, &str, &[&str], &str); 3] = [
-    // Two snapshots of one origin, each with writes of its own that the other doesn't see.
+    // Two snapshots of one origin: neither sees the other's writes.
     (
         "s: 0 16 snapshot base c1 P 4\nt: 0 16 snapshot base c2 P 8\n",
         "base 16\nc1 64\nc2 64\n",
@@ -34,7 +34,7 @@ static ROWS: [(&str, &str, &[&str], &str); 3] = [
         &["W s 4 8", "R s 0 16", "W s 16 1", "R s 0 16"],
         "1 wrote 1 4 8\n2 old base 0 4\n2 wrote 1 4 8\n2 old base 12 4\n3 error 1\n4 error 16\n",
     ),
-    // Writes that overlap earlier writes.
+    // Writes that overlap earlier writes of the same device.
     (
         "a: 0 16 linear sda 0\n",
         "sda 16\n",
@@ -43,19 +43,19 @@ static ROWS: [(&str, &str, &[&str], &str); 3] = [
     ),
 ];
 
-/// The table and disks of a snapshot whose last chunk is cut short by the device's end.
+/// A table and disks: the snapshot's last chunk is cut short by the device's end.
 const SHORT: (&str, &str) = ("s: 0 20 snapshot base cow P 8\n", "base 20\ncow 64\n");
 
-/// Two snapshots of one origin.
+/// A table and disks: two snapshots of one origin.
 const TWO: (&str, &str) = (
     "s: 0 16 snapshot base c1 P 4\nt: 0 16 snapshot base c2 P 8\n",
     "base 16\nc1 64\nc2 64\n",
 );
 
-/// Tables and disks; requests, each behind the number of units after which it is halted or behind a hyphen; and the
-/// lines of the answers to requests that are not halted.
+/// A table and disks; requests, each preceded by the number of units after which it is halted, or by a hyphen; and the
+/// lines of the answers to the requests that aren't halted.
 static HALTS: [((&str, &str), &str, &str); 22] = [
-    // A write of two sectors has six units: four copies, because the device's end cuts the chunk short, and two writes.
+    // A write of two sectors has six units: four copies, because the device ends inside the chunk, and two writes.
     (SHORT, "0 W s 18 2\n- R s 16 4\n", "2 old base 16 4\n"),
     (SHORT, "1 W s 18 2\n- R s 16 4\n", "2 old base 16 4\n"),
     (SHORT, "2 W s 18 2\n- R s 16 4\n", "2 old base 16 4\n"),
@@ -71,7 +71,7 @@ static HALTS: [((&str, &str), &str, &str); 22] = [
         "6 W s 18 2\n- R s 16 4\n",
         "2 old base 16 2\n2 wrote 1 18 2\n",
     ),
-    // The write is halted after more units than it has.
+    // A write that is to be halted after more units than it has.
     (
         SHORT,
         "7 W s 18 2\n- R s 16 4\n",
@@ -82,13 +82,13 @@ static HALTS: [((&str, &str), &str, &str); 22] = [
         "18446744073709551615 W s 18 2\n- R s 16 4\n",
         "2 old base 16 2\n2 wrote 1 18 2\n",
     ),
-    // A chunk of the store that was torn is taken by the next write.
+    // A halt leaves a chunk of the store torn; the next write takes that chunk.
     (
         SHORT,
         "3 W s 18 2\n- W s 8 1\n- R s 8 12\n",
         "2 wrote 2 8 1\n3 wrote 2 8 1\n3 old base 9 11\n",
     ),
-    // A write that was halted is issued again.
+    // A halted write is issued again.
     (
         SHORT,
         "3 W s 18 2\n- W s 18 2\n- R s 16 4\n",
@@ -100,13 +100,13 @@ static HALTS: [((&str, &str), &str, &str); 22] = [
         "- W s 18 1\n2 R s 16 4\n9 R s 16 4\n- R s 16 4\n",
         "1 wrote 1 18 1\n4 old base 16 2\n4 wrote 1 18 1\n4 old base 19 1\n",
     ),
-    // Requests that pass the end take no chunk, wherever they are halted.
+    // Requests that pass the device's end take no chunk, wherever they are halted.
     (
         SHORT,
         "1 W s 18 3\n3 W s 18 3\n1 W s 20 1\n- R s 16 4\n- W s 8 1\n",
         "4 old base 16 4\n5 wrote 5 8 1\n",
     ),
-    // Zeros that are filled in, and then a store with no free chunk: the halt comes before the error.
+    // Copies from zeros, and then a store with no free chunk: the halt comes before the error.
     (
         (
             "o: 0 8 zero\ns: 0 8 snapshot /dev/mapper/o cow P 4\n",
@@ -115,19 +115,19 @@ static HALTS: [((&str, &str), &str, &str); 22] = [
         "3 W s 1 2\n- R s 0 8\n7 W s 1 6\n- R s 0 8\n0 W s 4 1\n- R s 0 8\n1 W s 4 1\n- R s 0 8\n",
         "2 zero 8\n4 zero 1\n4 wrote 3 1 3\n4 zero 4\n6 zero 1\n6 wrote 3 1 3\n6 zero 4\n8 error 8\n",
     ),
-    // A transient store: the chunk that a halt left torn is its first one, and the next write takes it.
+    // A transient store: a halt leaves its first chunk torn, and the next write takes that chunk.
     (
         ("s: 0 8 snapshot base cow N 4\n", "base 8\ncow 8\n"),
         "3 W s 5 1\n- W s 1 1\n- W s 5 1\n- R s 0 8\n",
         "2 wrote 2 1 1\n3 wrote 3 5 1\n4 old base 0 1\n4 wrote 2 1 1\n4 old base 2 3\n4 wrote 3 5 1\n4 old base 6 2\n",
     ),
-    // A keeping store (kind K) with no free chunk: whether or not the error is played, nothing changes.
+    // A keeping store (kind K) with no free chunk: nothing changes, whether or not the error is played.
     (
         ("s: 0 8 snapshot base cow K 4\n", "base 8\ncow 12\n"),
         "3 W s 1 2\n- R s 0 8\n- W s 1 2\n0 W s 4 1\n1 W s 4 1\n- R s 0 8\n- W s 3 2\n- R s 0 8\n",
         "2 old base 0 8\n3 wrote 3 1 2\n6 old base 0 1\n6 wrote 3 1 2\n6 old base 3 5\n7 wrote 7 3 1\n7 error 1\n8 old base 0 1\n8 wrote 3 1 2\n8 wrote 7 3 1\n8 old base 4 4\n",
     ),
-    // A write to a keeping snapshot's origin makes the snapshot lost, unless the halt comes before that.
+    // A write to the origin makes a keeping snapshot lost, unless the write is halted before that.
     (
         (
             "o: 0 8 snapshot-origin base\ns: 0 8 snapshot base cow K 4\n",
@@ -136,7 +136,7 @@ static HALTS: [((&str, &str), &str, &str); 22] = [
         "- W s 0 1\n0 W o 4 1\n- R s 0 8\n1 W o 4 1\n- R s 0 8\n- R o 0 8\n",
         "1 wrote 1 0 1\n3 wrote 1 0 1\n3 old base 1 7\n5 error 8\n6 old base 0 4\n6 wrote 4 4 1\n6 old base 5 3\n",
     ),
-    // Two snapshots of one origin, halted in turn, each halt followed by requests.
+    // Two snapshots of one origin, halted in turn, with requests after each halt.
     (
         TWO,
         "6 W s 2 4\n- R t 0 4\n9 W t 1 2\n- R t 0 4\n- R s 0 8\n",
@@ -147,7 +147,7 @@ static HALTS: [((&str, &str), &str, &str); 22] = [
         "8 W t 7 2\n- W t 8 1\n20 W s 0 9\n- R s 0 12\n- R t 4 8\n",
         "2 wrote 2 8 1\n4 wrote 3 0 8\n4 old base 8 4\n5 old base 4 4\n5 wrote 2 8 1\n5 old base 9 3\n",
     ),
-    // A snapshot of a snapshot: each continues from its own chunks.
+    // A snapshot of a snapshot: each goes on from its own chunks.
     (
         (
             "s: 0 8 snapshot base c1 P 4\nt: 0 8 snapshot /dev/mapper/s c2 P 2\n",
@@ -156,7 +156,7 @@ static HALTS: [((&str, &str), &str, &str); 22] = [
         "4 W t 1 4\n- R t 0 8\n11 W t 0 8\n- R t 0 8\n",
         "2 old base 0 1\n2 wrote 1 1 1\n2 old base 2 6\n4 wrote 3 0 6\n4 old base 6 2\n",
     ),
-    // Stripes, zeros and errors.
+    // Stripes, zeros and errors, with a halt.
     (
         ("a: 0 8 striped 2 2 sda 0 sdb 0\n", "sda 4\nsdb 4\n"),
         "2 W a 1 4\n- R a 0 8\n",
@@ -172,7 +172,7 @@ static HALTS: [((&str, &str), &str, &str); 22] = [
     ),
 ];
 
-/// Tables, disks, a request, and why it is not answered.
+/// A table, disks, a request, and why a replay doesn't answer the request.
 static REFUSED: [(&str, &str, &str, ReplayFault); 4] = [
     (
         "a: 0 8 linear sda 0\nb: 0 8 linear sda 4\n",
@@ -195,7 +195,7 @@ static REFUSED: [(&str, &str, &str, ReplayFault); 4] = [
     ("a: 0 8 zero\n", "", "R b 0 1", ReplayFault::NotTop),
 ];
 
-/// Tables, disks, a request that is halted after two units, and why there is no replay after it.
+/// A table, disks, a request that is halted after two units, and why `halt` fails.
 static NOT_HALTED: [(&str, &str, &str, ReplayFault); 2] = [
     (
         "o: 0 8 zero\ns: 0 8 snapshot /dev/mapper/o cow P 8\n",
@@ -206,14 +206,14 @@ static NOT_HALTED: [(&str, &str, &str, ReplayFault); 2] = [
     ("a: 0 8 zero\n", "", "R b 0 1", ReplayFault::NotTop),
 ];
 
-/// The stack of a table and a disk list.
+/// The stack with these devices and disks.
 fn stack_of(rt: &impl Abort, alloc: Global, table: &str, disks: &str) -> Stack {
     let devices = parse_table(alloc, table.as_bytes()).expect(rt, "devices");
     let disks = parse_disks(alloc, disks.as_bytes()).expect(rt, "disks");
     Stack::load(alloc, devices, disks).expect(rt, "a stack")
 }
 
-/// The lines of what a new replay answers to these requests.
+/// The lines of a new replay's answers to these requests.
 fn lines_of(rt: &impl Abort, alloc: Global, stack: &Stack, requests: &[&str]) -> ShortOut {
     let mut replay: Replay<'_, PlainTaken> = Replay::new(alloc, stack).expect(rt, "a replay");
     let mut output = ShortOut::new(alloc, 1, 4096).expect(rt, "an output");
@@ -232,8 +232,8 @@ fn lines_of(rt: &impl Abort, alloc: Global, stack: &Stack, requests: &[&str]) ->
     output
 }
 
-/// The lines of what a new replay answers to these requests, each behind the number of units after which it is halted
-/// or behind a hyphen.
+/// The lines of a new replay's answers to these requests, each preceded by the number of units after which it is
+/// halted, or by a hyphen.
 fn lines_with_stops(rt: &impl Abort, alloc: Global, stack: &Stack, steps: &str) -> ShortOut {
     let mut replay: Replay<'_, PlainTaken> = Replay::new(alloc, stack).expect(rt, "a replay");
     let mut output = ShortOut::new(alloc, 1, 4096).expect(rt, "an output");
@@ -247,7 +247,7 @@ fn lines_with_stops(rt: &impl Abort, alloc: Global, stack: &Stack, steps: &str) 
     output
 }
 
-/// The replay after a request. Its answer is written to `output`, unless it is halted.
+/// Plays a request, and returns the replay. Writes the answer to `output`, unless the request is halted.
 fn replay_after<'s>(
     rt: &impl Abort,
     alloc: Global,
@@ -299,7 +299,7 @@ fn answers_after_stops_of_stacks(rt: HostRuntime) {
     }
 }
 
-/// Reads more rows from a file in the test's folder, if it is there: `tests/outside/program/halts.py` writes them.
+/// Tests cases from a file in the test's folder, if there is one: `tests/outside/program/halts.py` writes it.
 #[test]
 fn answers_after_stops_of_a_file(rt: HostRuntime) {
     let Ok(rows) = fs::read_to_string(&rt, "stops") else {
@@ -310,7 +310,7 @@ fn answers_after_stops_of_a_file(rt: HostRuntime) {
     }
 }
 
-/// Plays a row: its title, devices, disks, requests and the lines of their answers.
+/// Tests one case: a title, devices, disks, requests, and the lines of the answers.
 fn answers_as_written(rt: &impl Abort, alloc: Global, row: &str) {
     let (_, rest) = row.split_once('|').expect(rt, "what it shows");
     let (source, rest) = rest.split_once('|').expect(rt, "devices");
@@ -345,7 +345,7 @@ fn what_is_not_halted(rt: HostRuntime) {
             Some(want),
             "{table}"
         );
-        // That the replay has failed takes precedence over the missing top device.
+        // A replay that has failed reports that, rather than the missing top device.
         let mut spent: Replay<'_, PlainTaken> = Replay::new(alloc, &stack).expect(&rt, "a replay");
         spent.failed = true;
         let fault = spent.halt(alloc, &request, 2).err();
@@ -353,8 +353,8 @@ fn what_is_not_halted(rt: HostRuntime) {
     }
 }
 
-/// Any growth of memory may be refused here (`rt try --test --fail-alloc N` refuses the Nth). The only other answer
-/// allowed is that memory ran out.
+/// Any growth of memory may be refused here (`rt try --test --fail-alloc N` refuses the Nth). The test then accepts
+/// only the fault `Memory`.
 #[test]
 fn growths_may_be_refused(rt: HostRuntime) {
     let alloc = rt.alloc();
@@ -374,7 +374,7 @@ fn growths_may_be_refused(rt: HostRuntime) {
     }
 }
 
-/// What a read answers after two writes that are halted.
+/// The answer of a read after two halted writes.
 fn answered_after_stops(alloc: Global, stack: &Stack) -> Result<Vec<ValueRun>, ReplayFault> {
     let mut replay: Replay<'_, PlainTaken> = Replay::new(alloc, stack)?;
     replay = replay.halt(alloc, &request_of_four(1, Op::Write), 13)?;
@@ -382,7 +382,7 @@ fn answered_after_stops(alloc: Global, stack: &Stack) -> Result<Vec<ValueRun>, R
     replay.request(alloc, &request_of_four(3, Op::Read))
 }
 
-/// The run of two sectors that a request wrote.
+/// The run of two sectors from `start` on that a request wrote.
 fn wrote(request: u64, start: u64) -> ValueRun {
     let len = 2;
     ValueRun::Wrote {
@@ -392,7 +392,7 @@ fn wrote(request: u64, start: u64) -> ValueRun {
     }
 }
 
-/// A request for the first four sectors of the second chunk.
+/// A request for the first four sectors of the snapshot's second chunk.
 fn request_of_four(number: u64, op: Op) -> Request<'static> {
     Request {
         number,
@@ -403,7 +403,7 @@ fn request_of_four(number: u64, op: Op) -> Request<'static> {
     }
 }
 
-/// Why a new replay doesn't answer a request, if it doesn't.
+/// Why a new replay doesn't answer a request; None if it does.
 fn fault_of(alloc: Global, stack: &Stack, request: &Request<'_>) -> Option<ReplayFault> {
     let mut replay: Replay<'_, PlainTaken> = match Replay::new(alloc, stack) {
         Ok(replay) => replay,

@@ -1,4 +1,4 @@
-//! Tests of reading stores from memory. Tests of the built program cover what each word is for.
+//! Tests of reading stores from memory. Tests of the built program cover each word for a fault.
 
 ghost use Rattle.std.specs.Prelude.{◌≡◌};
 
@@ -11,22 +11,22 @@ use dm_table::{parse_disks, parse_paths, parse_table};
 use std::alloc::Global;
 use std::process::Abort;
 
-/// A snapshot with chunks of 8 sectors, whose store has its header in one part of a disk, and everything after
-/// it, from the list on, in another.
+/// A snapshot with chunks of 8 sectors. The header of its store is in one part of a disk, and the list and all chunks
+/// after it are in another.
 const TABLE: &str =
     "s: 0 800 snapshot base /dev/mapper/cow P 8\ncow: 0 8 linear sda 8\ncow: 8 392 linear sda 20\n";
 
 const DISKS: &str = "base 800\nsda 412\n";
 
-/// The byte of the image at which the header starts.
+/// The offset in bytes of the store's header in the image.
 const HEADER: usize = 8 * SECTOR;
 
 const LIST: usize = 20 * SECTOR;
 
-/// The four numbers in the header of a store in use: magic, valid, version and chunk size.
+/// The four numbers in the header of a store that is in use: magic, valid, version and chunk size.
 const USED: [u32; 4] = [0x7041_6e53, 1, 1, 8];
 
-/// A header, the pairs from the list's start on, how many reads are answered, and the expected message.
+/// A header, the pairs of the list, how many reads are answered, and the expected message.
 static ROWS: [([u32; 4], &[(u64, u64)], usize, &str); 14] = [
     ([0, 0, 0, 0], &[], 1, ""),
     (USED, &[], 2, ""),
@@ -64,7 +64,7 @@ static ROWS: [([u32; 4], &[(u64, u64)], usize, &str); 14] = [
     ),
 ];
 
-/// An image with this header and these pairs, as long as the disk.
+/// An image of the disk with this header and these pairs.
 fn image_of(rt: &impl Abort, alloc: Global, header: [u32; 4], pairs: &[(u64, u64)]) -> Vec<u8> {
     let mut bytes = vec![in alloc; 0; 412 * SECTOR].expect(rt, "an image");
     let mut at = HEADER;
@@ -81,7 +81,7 @@ fn image_of(rt: &impl Abort, alloc: Global, header: [u32; 4], pairs: &[(u64, u64
     bytes
 }
 
-/// Writes the bytes of a number into an image.
+/// Writes the bytes of a number into an image at offset `at`.
 fn put(rt: &impl Abort, bytes: &mut Vec<u8>, at: usize, number: &[u8]) {
     for (index, byte) in number.iter().enumerate() {
         *bytes.get_mut(at.wrapping_add(index)).expect(rt, "a place") = *byte;

@@ -1,4 +1,4 @@
--- Laws of a player of earlier requests as a handler: what it did with some requests and then with later ones is what it did with all of them.
+-- Laws of a player of earlier requests as a handler: playing some requests and then later ones has the same result as playing all of them.
 use Rattle.dm_stream.specs.Base.{ℕ, List, [], refl, ap, ◌∙◌, append_assoc, Description, State}
 use Rattle.dm_stream.specs.runs.Earlier.{HasMoved, HasStoppedAt}
 use Rattle.dm_stream.specs.runs.Outcome.{outcome_from}

@@ -1,4 +1,4 @@
--- Laws of a join as a sink: what it took of some units and then took or left of later ones is what it took or left of all of them. An `impl` cites them.
+-- Laws of a join as a sink: taking some units and then taking or leaving later ones has the same result as taking or leaving all of them. An `impl` cites the laws.
 use Rattle.dm_stream.specs.Base.{ℕ, suc, Bool, true, false, cond, List, [], refl, sym, ap, subst, ◌∙◌, append_assoc, append-nil, OutputPast, since, since_more, written_to_more, written_to_none, Description, IsLawful, BlockUnit, all_but_last, since-same, IsBeginning}
 use Rattle.std.proofs.lemmas.Grind.{flat_map-append}
 use Rattle.dm_stream.specs.pieces.Pending.{Pending, held_units}
@@ -7,7 +7,7 @@ use Rattle.dm_stream.specs.pieces.Pieces.{UnitRun, fewest, joins, onto}
 use Rattle.dm_stream.specs.pieces.PieceText.{piece_text, pieces_text}
 use Rattle.std.specs.Prelude.{◌≡◌, ◌∷◌, ◌++◌}
 
--- the list's first piece begins with this unit
+-- the first piece in the list begins with this unit
 pub record BeginsWith (unit : BlockUnit) (pieces : List UnitRun) : Type 0 where
   pub len : ℕ
   pub later : List UnitRun
@@ -22,7 +22,7 @@ onto_begins unit (piece ∷ pieces) =
       | false ↦ record { len = 1; later = piece ∷ pieces; is = refl }
     ]
 
--- without its last piece, pieces followed by at least one more are these pieces followed by the later ones without their last
+-- pieces `ps` followed by `q ∷ qs`, without the last piece, are `ps` followed by `q ∷ qs` without its last piece
 last-after : (ps : List UnitRun) (q : UnitRun) (qs : List UnitRun) → all_but_last (ps ++ q ∷ qs) ≡ ps ++ all_but_last (q ∷ qs)
 last-after [] q qs = refl
 last-after (p ∷ []) q qs = refl
@@ -42,14 +42,14 @@ pub some_before : (us vs : List BlockUnit) → HasUnits us → HasUnits (us ++ v
 some_before [] vs some = absurd some
 some_before (u ∷ us) vs some = tt
 
--- a text followed by a prefix of `more` is a prefix of `text ++ more`; below, a prefix of the text is one, too
+-- if `front` is a prefix of `more`, then `text ++ front` is a prefix of `text ++ more`
 beginning-after : (text more front : List ℕ) → IsBeginning more front → IsBeginning (text ++ more) (text ++ front)
 beginning-after text more front begins = (begins.0, ap (λ (xs : List ℕ). text ++ xs) begins.1 ∙ sym (append_assoc text front begins.0))
 
 pub beginning-before : (text more front : List ℕ) → IsBeginning text front → IsBeginning (text ++ more) front
 beginning-before text more front begins = (begins.0 ++ more, ap (λ (xs : List ℕ). xs ++ more) begins.1 ∙ append_assoc front begins.0 more)
 
--- moves the brackets of units in three parts
+-- moves the brackets in a list of units made of four parts
 parts : (hs us vs rest : List BlockUnit) → hs ++ (us ++ vs) ++ rest ≡ hs ++ us ++ (vs ++ rest)
 parts hs us vs rest = ap (λ (xs : List BlockUnit). xs ++ rest) (sym (append_assoc hs us vs)) ∙ append_assoc (hs ++ us) vs rest
 
@@ -62,7 +62,7 @@ took_none held w = record {
   number = refl;
 }
 
--- units taken in two parts settle the pieces of the first part, and then those of the second
+-- taking units in two parts settles the pieces that the first part settles, followed by those that the second part settles
 told_both : (hs bs cs us vs : List BlockUnit) (ps qs : List UnitRun) (rest : List BlockUnit)
     → ((rest : List BlockUnit) → fewest (hs ++ us ++ rest) ≡ ps ++ fewest (bs ++ rest)) → fewest (bs ++ vs ++ rest) ≡ qs ++ fewest (cs ++ rest)
     → fewest (hs ++ (us ++ vs) ++ rest) ≡ ps ++ qs ++ fewest (cs ++ rest)
@@ -87,7 +87,7 @@ took_more a b c us vs w0 w1 w2 more again first second = record {
   number = second.number ∙ first.number;
 }
 
--- settled lines followed by a prefix of the later lines without the last are a prefix of all lines without the last
+-- the settled lines, followed by a prefix of the later lines without the last one, are a prefix of all lines without the last one
 left_after : (stack : Description) (number : ℕ) (settled : List UnitRun) (units : List BlockUnit) (all : List UnitRun) (wrote front : List ℕ) → HasUnits units → all ≡ settled ++ fewest units → wrote ≡ pieces_text stack number settled ++ front
     → IsBeginning (pieces_text stack number (all_but_last (fewest units))) front → IsBeginning (pieces_text stack number (all_but_last all)) wrote
 left_after stack number settled units all wrote front some e f begins =

@@ -1,4 +1,4 @@
--- Laws of a request mapper as a handler: what it did with some requests and then with later ones is what it did with all of them.
+-- Laws of a request mapper as a handler: answering some requests and then later ones has the same result as answering all of them.
 use Rattle.dm_stream.specs.Prelude.{ℕ, List, [], Option, Some, sym, ap, ◌∙◌, append_assoc, since, since_more, Description, MapperView, State, since-same, NotMapped, Ending, BadRequest, Unknown, HasAnswered, HasStopped, Outcome, after_text, outcome_from, NumberedRequest}
 use Rattle.dm_stream.specs.declared.runs.ending.NotMapped.TheVariants as causes
 use Rattle.std.specs.Prelude.{◌≡◌, ◌∷◌, ◌++◌}
@@ -8,13 +8,13 @@ answered_none stack state w = record {
   told = λ rest e. ap (λ (text : List ℕ). after_text text (outcome_from stack state rest e)) (sym (since-same w));
 }
 
--- an outcome after two texts in a row is the outcome after both texts as one
+-- putting one text and then another before an outcome's output is the same as putting both there at once
 texts_more : (w0 w1 w2 : List ℕ) (o : Outcome) → w1 ≡ w0 ++ since w0 w1 → w2 ≡ w1 ++ since w1 w2 → after_text (since w0 w1) (after_text (since w1 w2) o) ≡ after_text (since w0 w2) o
 texts_more w0 w1 w2 o e f =
     ap (λ (text : List ℕ). record { output = text; state = o.state; ending = o.ending }) (sym (append_assoc (since w0 w1) (since w1 w2) o.output))
     ∙ ap (λ (text : List ℕ). after_text text o) (sym (since_more w0 w1 w2 e f))
 
--- the outcome of requests whose first ones were answered: what was written for these, and then the outcome of the others
+-- the outcome of all requests is the text written for those already answered, followed by the outcome of the others
 first_answered : (stack : Description) (a b : State) (us vs rest : List NumberedRequest) (e : Option Ending) (w0 w1 : List ℕ) → HasAnswered stack a b us w0 w1
     → outcome_from stack a ((us ++ vs) ++ rest) e ≡ after_text (since w0 w1) (outcome_from stack b (vs ++ rest) e)
 first_answered stack a b us vs rest e w0 w1 first =

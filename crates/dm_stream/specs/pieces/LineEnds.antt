@@ -6,10 +6,10 @@ use Rattle.std.specs.Prelude.{◌≡◌, ◌<◌, ◌≤◌, ◌∷◌, ◌++◌
 abbrev pub line_end : ℕ → List ℕ
 line_end len = decimal len ++ code "\n" ∷ []
 
--- an array of eight bytes that begins with the end of a line, and whose last byte says how many bytes that end has
+-- the array has eight bytes: it begins with the end of a line, and its last byte is the length of that end
 abbrev pub IsLineEnd : ℕ → List ℕ → Type 0
 IsLineEnd len array = (length array ≡ 8) × (get_or array 7 0 ≤ 8) × (take (get_or array 7 0) array ≡ line_end len)
 
--- each length below the bound has an array with its line end
+-- for each length below the bound, the table has an array that begins with the line end
 abbrev pub AreMade : ℕ → List (List ℕ) → Type 0
 AreMade bound ends = (len : ℕ) → len < bound → IsLineEnd len (get_or ends len [])

@@ -1,4 +1,4 @@
--- The number and space that each line of a request begins with.
+-- The number and the space with which each line of a request begins.
 use Rattle.dm_stream.specs.Base.{ℕ, List, [], decimal, code}
 use Rattle.std.specs.Prelude.{◌∷◌, ◌++◌}
 

@@ -7,7 +7,7 @@ use Rattle.dm_stream.specs.declared.runs.ending.RequestWord.{RequestWord}
 use Rattle.dm_stream.specs.declared.runs.ending.RequestWord.TheVariants as words
 use Rattle.std.specs.Prelude.{◌≡◌, ◌≤◌, ◌+◌, ◌++◌}
 
--- how messages write what is wrong with a request
+-- the word in a message for what is wrong with a request
 abbrev pub request_word : RequestWord → List ℕ
 request_word words.Long = codes "long"
 request_word words.Unended = codes "unended"
@@ -17,7 +17,7 @@ request_word words.Number = codes "number"
 request_word words.Length = codes "length"
 request_word words.Unknown = codes "unknown"
 
--- the message for a request that is refused, with a word that says why
+-- the message for a request that is refused; the word is the reason
 abbrev pub refused_request : ℕ → List ℕ → List ℕ
 refused_request number word = codes "dmremap: request " ++ decimal number ++ codes ": " ++ word ++ codes "\n"
 
@@ -42,12 +42,12 @@ abbrev pub told_at_close : {E : Type 0} → Result (Unit {0}) E → List ℕ →
 told_at_close (Ok closed) message = message
 told_at_close (Err fault) message = write_message
 
--- the message was written whole, or only a prefix of it if its stream failed
+-- the whole message was written or, if its stream failed, a prefix of the message
 pub record IsTold (message : List ℕ) (old new : OutputPast) : Type 0 where
   pub beginning : IsBeginning message (written_since old new)
   pub whole : new.faults ≡ old.faults → written_since old new ≡ message
 
--- the message was written to a stream, which was not flushed, and at most one write to it failed
+-- the message was written to a stream, which was not flushed; at most one write to the stream failed
 pub record HasTold (message : List ℕ) (old new : OutputPast) : Type 0 where
   pub appends : HasGrown old.written new.written
   pub told : IsTold message old new

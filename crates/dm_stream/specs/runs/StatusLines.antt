@@ -4,26 +4,26 @@ use Rattle.dm_stack.specs.declared.lines.resolved_line.ResolvedSnapshot.{Resolve
 use Rattle.dm_map.specs.declared.state.usage.Usage.{Usage}
 use Rattle.std.specs.Prelude.{◌∷◌, ◌++◌, if◌then◌else◌}
 
--- how much of an exception store is used, in sectors, or that its snapshot is invalid
+-- how many sectors of an exception store are used, or that its snapshot is invalid
 abbrev pub usage_text : Usage → List ℕ
 usage_text usage =
     if usage.valid then decimal usage.allocated ++ code "/" ∷ decimal usage.total ++ code " " ∷ decimal usage.metadata else codes "Invalid"
 
--- what follows the name in the status line of a snapshot of this length, whose table is one line from sector 0
+-- the part of a status line after the device's name; the snapshot's table is one line, from sector 0 and with this length
 abbrev pub after_name : (len : ℕ) → Usage → List ℕ
 after_name len usage = codes ": 0 " ++ decimal len ++ codes " snapshot " ++ usage_text usage ++ code "\n" ∷ []
 
--- the status line of a snapshot, with what its exception store uses
+-- the status line of a snapshot, with the usage of its exception store
 abbrev pub snapshot_line : Description → State → (device : ℕ) → ResolvedSnapshot → List ℕ
 snapshot_line stack state device snapshot =
     name_at stack device ++ after_name (device_len stack device) (usage_of stack snapshot (taken_at state device))
 
--- the status line of a device if it is a snapshot; empty for any other device
+-- the status line of a device that is a snapshot; empty if it isn't one
 abbrev pub line_if : Description → State → (device : ℕ) → Option ResolvedSnapshot → List ℕ
 line_if stack state device (Some snapshot) = snapshot_line stack state device snapshot
 line_if stack state device None = []
 
--- the status line of the device with this id; empty if it isn't a snapshot
+-- the status line of the device with this id; empty if the device isn't a snapshot
 abbrev pub status_line : Description → State → (device : ℕ) → List ℕ
 status_line stack state device = line_if stack state device (snapshot_at stack device)
 

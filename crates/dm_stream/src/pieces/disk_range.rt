@@ -1,4 +1,4 @@
-//! Ranges of a disk that are read or written, as most pieces are.
+//! Ranges of a disk that are read or written. Most pieces are such reads and writes.
 //!
 //! Reads and writes share one code path, because the processor can't predict which of the two comes next.
 
@@ -54,7 +54,7 @@ impl DiskRange {
         }
     }
 
-    /// Whether the range `next` continues this one.
+    /// Whether `next` continues this range, so that both can be written as one.
     #[inline(always)]
     pub(crate) fn goes_on(&self, next: &DiskRange) -> bool
         ensures { result ≡ is_after (first_unit (piece_of self.now)) self.now.len
@@ -72,7 +72,7 @@ impl DiskRange {
         ensures first { first_unit (piece_of result) ≡ first_unit (piece_of self.now) }
         ensures len { result.len ≡ self.now.len + more }
     {
-        // A `Stack` is sound, so its disks are short enough that the sum can't overflow.
+        // A `Stack` is sound, so its disks are short enough that the new length can't overflow.
         disks.recall_soundness();
         DiskRange {
             len: self.len + more,
@@ -81,7 +81,7 @@ impl DiskRange {
     }
 }
 
-/// Whether `next` is the sector after `len` sectors from `sector` on.
+/// Whether `next` is the sector right after the `len` sectors that begin at `sector`.
 #[inline(always)]
 pub(crate) fn follows(sector: u64, len: u64, next: u64) -> bool
     ensures { result ≡ (sector + len == next) }

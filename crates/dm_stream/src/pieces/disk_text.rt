@@ -1,11 +1,11 @@
-//! The name of a disk as lines write it: with a space after it, and in lines of reads and writes a letter and a space
-//! before it.
+//! A disk's name as lines write it: followed by a space and, in lines of reads and writes, preceded by a letter and a
+//! space.
 //!
-//! Names are mostly short, and then an array of fixed size is copied, beyond the end of the text.
+//! Names are mostly short. For a short name, an array of fixed size is copied, which is longer than the name.
 //!
-//! This is here for speed alone: RESULTS.md has its gain as *letter and disk's name in one array* and *texts kept
-//! ready*. It relies on an array that is longer than a short text, and on space behind the text in the block. Change
-//! it only if you measure small requests, and large ones over 16 columns, before and after.
+//! This module only saves time: RESULTS.md has its gain as *letter and disk's name in one array* and *texts kept
+//! ready*. The array is longer than a short text, and the block must have room behind the text. Change the module
+//! only if you measure small requests, and large ones over 16 columns, before and after.
 
 ghost use Rattle.dm_stream.specs.Prelude.{length, take, IsPut, code, disk_text, line_head};
 ghost use Rattle.std.specs.Prelude.{◌≡◌, ◌∷◌, ◌+◌, ◌≤◌};
@@ -14,20 +14,20 @@ use crate::pieces::letter::Letter;
 use dm_table::{DiskName, put_array, put_bytes};
 use std::marker::Model;
 
-/// The bytes of the longest text: a name of 255 bytes and a space.
+/// The length of the longest text: a name of 255 bytes and a space.
 const TEXT_BYTES: usize = 256;
 
-/// How many bytes are copied for a short text, with its letter.
+/// How many bytes are copied for a short text, including its letter.
 const SHORT: usize = 32;
 
-/// The letters of reads and of writes, in this order.
+/// The letter of reads, then the letter of writes.
 const LETTERS: [u8; 2] = [b'R', b'W'];
 
-/// The name of a disk and a space. In contracts, its value is these bytes.
+/// A disk's name and a space. In contracts, the value is the bytes of both.
 #[derive(Drop)]
 pub(crate) struct DiskText {
     len: usize,
-    /// The text with a letter and a space before it, for reads and for writes, if it is short.
+    /// A letter, a space and the text: first for reads, then for writes. Only spaces if the text isn't short.
     heads: [[u8; SHORT]; 2],
     text: [u8; TEXT_BYTES],
 }
@@ -46,7 +46,7 @@ impl Model for DiskText {
 }
 
 impl DiskText {
-    /// The text of a disk's name.
+    /// The text for a disk's name.
     pub(crate) fn new(name: &DiskName) -> DiskText
         ensures { result ≡ disk_text name.now }
     {
@@ -60,8 +60,8 @@ impl DiskText {
         DiskText { len, heads, text }
     }
 
-    /// Puts the name and the space at offset `at` of a block, and returns where they end. The block has at least 256
-    /// bytes from there on.
+    /// Puts the name and the space at offset `at` of a block, and returns the offset after them. The block needs 256
+    /// bytes from `at` on.
     #[inline(always)]
     pub(crate) fn put_into(&self, block: &mut [u8], at: usize) -> usize
         requires { at + TEXT_BYTES ≤ length block.old }
@@ -77,8 +77,8 @@ impl DiskText {
         put_array(block, at, array, self.len)
     }
 
-    /// Puts a letter, a space, the name and a space at offset `at` of a block, as lines of reads and writes have
-    /// them, and returns where they end. The block has at least 258 bytes from there on.
+    /// Puts a letter, a space, the name and a space at offset `at` of a block, as in lines of reads and writes.
+    /// Returns the offset after them. The block needs 258 bytes from `at` on.
     #[inline(always)]
     pub(crate) fn put_head(&self, block: &mut [u8], at: usize, letter: Letter) -> usize
         requires { at + TEXT_BYTES + 2 ≤ length block.old }
@@ -92,7 +92,7 @@ impl DiskText {
     }
 }
 
-/// A letter, a space and a text at the front of an array; only spaces if they don't fit.
+/// A letter, a space and a text at the front of an array; only spaces if they don't fit into it.
 fn short_head(letter: u8, text: &[u8]) -> [u8; SHORT]
     ensures { length text.now ≤ 30
         → take (length text.now + 2) result ≡ letter ∷ code " " ∷ text.now }

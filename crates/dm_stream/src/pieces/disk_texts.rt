@@ -1,7 +1,7 @@
-//! The names of a stack's disks as lines write them.
+//! The names of a stack's disks, as lines write them.
 //!
-//! There are few disks and hundreds of millions of lines, so these texts are made once, before a run. They aren't
-//! part of the stack, because only a run writes lines, nor of the run, because a run allocates nothing.
+//! There are few disks and hundreds of millions of lines, so the texts are made once, before a run. They aren't part of
+//! the stack, because only a run writes lines; nor are they made by the run, because a run allocates nothing.
 
 ghost use Rattle.dm_stream.specs.Prelude.{IfOk, length, map, disk_name_at, IsSound, disk_text};
 ghost use Rattle.std.specs.Prelude.{◌≡◌, ◌<◌};
@@ -12,7 +12,7 @@ use dm_table::{Disk, Reserved};
 use std::alloc::{AllocError, Global};
 use std::marker::Model;
 
-/// A stack, with the texts of its disks' names. In contracts, its value is the stack.
+/// A stack, with the texts of its disks' names. In contracts, the value is the stack.
 #[derive(Drop)]
 pub struct DiskTexts<'s> {
     stack: &'s Stack,
@@ -35,7 +35,7 @@ impl<'s> Model for DiskTexts<'s> {
 impl<'s> DiskTexts<'s> {
     /// The texts of the names of a stack's disks.
     ///
-    /// Fails only when out of memory. Cost: linear in the disks, with 328 bytes for each.
+    /// Fails only when out of memory. Cost: linear in the number of disks; 328 bytes for each disk.
     pub fn new(alloc: Global, stack: &'s Stack) -> Result<DiskTexts<'s>, AllocError>
         ensures { IfOk result (λ texts. texts ≡ stack.now) }
     {
@@ -46,7 +46,7 @@ impl<'s> DiskTexts<'s> {
         })
     }
 
-    /// Recalls that the stack is sound. It does nothing at run time; callers need its contract.
+    /// Makes the fact that the stack is sound available to a proof. Does nothing at run time.
     #[inline(always)]
     pub(crate) fn recall_soundness(&self)
         ensures { IsSound self.now }
@@ -54,7 +54,7 @@ impl<'s> DiskTexts<'s> {
         self.stack.depth();
     }
 
-    /// The text of the name of a disk of this stack.
+    /// The text for the name of one of the stack's disks.
     #[inline(always)]
     pub(crate) fn of(&self, disk: DiskId) -> &DiskText
         requires { disk < length self.now.disks }
@@ -64,7 +64,7 @@ impl<'s> DiskTexts<'s> {
     }
 }
 
-/// The texts of the disks' names, in the order of the disks.
+/// The texts for the names of all disks, in the order of the disks.
 fn texts_of(alloc: Global, disks: &[Disk]) -> Result<Vec<DiskText>, AllocError>
     ensures { IfOk result (λ texts. texts.items ≡ map (λ disk. disk_text disk.name) disks.now) }
 {

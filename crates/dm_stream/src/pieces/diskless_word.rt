@@ -1,5 +1,5 @@
-//! The word and space that follow the request's number in the line of a piece without a disk. They are copied as one
-//! array, like the *texts kept ready* of RESULTS.md.
+//! In the line of a piece without a disk, the word and the space that follow the request's number. They are copied as
+//! one array: RESULTS.md has the gain of copying arrays as *texts kept ready*.
 
 ghost use Rattle.dm_stream.specs.Prelude.{length, IsPut, first_unit, IsDiskless, diskless_word};
 ghost use Rattle.std.specs.Prelude.{◌≡◌, ◌+◌, ◌≤◌};
@@ -8,10 +8,10 @@ use dm_map::Piece;
 use dm_table::put_bytes;
 use std::marker::Model;
 
-/// The bytes of the array: the longest word, a space, and padding that makes the copy cheap.
+/// The length of the array: the longest word, a space, and padding that makes the copy cheap.
 const WORD_BYTES: usize = 8;
 
-/// A word and a space, at the front of an array. In contracts, its value is these bytes.
+/// A word and a space, at the front of an array. In contracts, the value is the bytes of both.
 #[derive(Drop)]
 pub(crate) struct DisklessWord {
     bytes: [u8; WORD_BYTES],
@@ -30,7 +30,7 @@ impl Model for DisklessWord {
 }
 
 impl DisklessWord {
-    /// The word of a piece without a disk.
+    /// The word for a piece without a disk.
     #[inline(always)]
     pub(crate) fn of(piece: &Piece) -> DisklessWord
         requires { IsDiskless piece.now }
@@ -52,7 +52,7 @@ impl DisklessWord {
         }
     }
 
-    /// Puts the word and the space at offset `at` of a block, and returns where they end.
+    /// Puts the word and the space at offset `at` of a block, and returns the offset after them.
     #[inline(always)]
     pub(crate) fn put_into(&self, block: &mut [u8], at: usize) -> usize
         requires { at + WORD_BYTES ≤ length block.old }

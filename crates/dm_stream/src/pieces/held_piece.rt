@@ -1,12 +1,12 @@
 //! The piece that a join holds back, because the next piece may continue it.
 //!
-//! Its invariant keeps it on the disks of the stack, so that its line can always be written. For a new kind of piece,
-//! define here when one continues another.
+//! The held piece always lies on the disks of the stack, so its line can always be written. If you add a kind of
+//! piece, define here when one such piece continues another.
 //!
-//! Ranges are held apart from other pieces, and rows of legs and whole answers have methods of their own, for speed
-//! alone: RESULTS.md has the gain as *legs on disks in one go* and *a range that lies on one disk is returned and
-//! written at once*. All that relies on `AreApart`: a range and another piece are never held together. Change it only
-//! if you measure small requests, and requests over stripes, before and after.
+//! Ranges are held apart from other pieces, and consecutive legs and whole answers have methods of their own. That
+//! only saves time: RESULTS.md has the gain as *legs on disks in one go* and *a range that lies on one disk is
+//! returned and written at once*. It relies on `AreApart`: a range and another piece are never held together. Change
+//! it only if you measure small requests, and requests over stripes, before and after.
 
 ghost use Rattle.dm_stream.specs.Prelude.{OnTrue, OnFalse, IfOk, List, OnErr, OnOk, Some, None, fault_of, BlockUnit, IsOnDisks, diskless_len, first_unit, piece_len, units_of, HasWritten, Wrote, HasLeft, HasTaken, Fits, HoldsNoRange, IsHeld, IsNoRange, goes_on, held_diskless, held_units, holding, piece_of, pieces_text, fewest, is_after};
 ghost use Rattle.std.specs.Prelude.{◌≡◌, ◌+◌, ◌-◌, ◌≤◌, ◌++◌, ◌^◌};
@@ -21,17 +21,17 @@ use dm_map::Piece;
 use dm_table::{OutFault, Output};
 use std::marker::Model;
 
-/// At most one piece of a request to a stack's devices, with the request's number.
+/// At most one piece of a request to a stack's devices, and the request's number.
 #[derive(Drop)]
 pub(crate) struct HeldPiece<'s> {
     disks: &'s DiskTexts<'s>,
-    /// The read or write that is held, if one is.
+    /// The held read or write, if there is one.
     range: Option<DiskRange>,
-    /// The piece of another kind that is held, if one is.
+    /// The held piece that is neither a read nor a write, if there is one.
     other: Option<Piece>,
-    /// The request's number, as each of its lines begins with it.
+    /// The request's number as text; each line of the request begins with it.
     prefix: NumberPrefix,
-    /// The start and length of the range that was written last, as text.
+    /// The start and length of the last written range, as text.
     text: RangeText,
     ends: LineEnds,
 }
@@ -52,7 +52,7 @@ impl<'s> Model for HeldPiece<'s> {
 }
 
 impl<'s> HeldPiece<'s> {
-    /// Holds no piece, and has the request number 0.
+    /// A `HeldPiece` that holds no piece, with request number 0.
     pub(crate) fn new(disks: &'s DiskTexts<'s>) -> HeldPiece<'s>
         ensures { result ≡ record { stack = disks.now; number = 0; piece = None } }
     {
@@ -66,7 +66,7 @@ impl<'s> HeldPiece<'s> {
         }
     }
 
-    /// Sets the number of the request whose pieces come next.
+    /// Sets the number of the request that the next pieces belong to.
     #[inline(always)]
     pub(crate) fn set_number(&mut self, number: u64)
         ensures { self.new ≡ record { stack = self.old.stack; number = number; piece = self.old.piece } }
@@ -74,8 +74,8 @@ impl<'s> HeldPiece<'s> {
         self.prefix.set(number);
     }
 
-    /// Lengthens the held piece by one that continues it. Returns false, and changes nothing, if no piece is held or
-    /// the new one doesn't continue it.
+    /// Lengthens the held piece if `piece` continues it. Otherwise, or if no piece is held, returns false and changes
+    /// nothing.
     #[inline(always)]
     pub(crate) fn lengthen(&mut self, piece: &Piece) -> bool
         requires some { 1 ≤ piece_len piece.now }
@@ -88,7 +88,7 @@ impl<'s> HeldPiece<'s> {
         ensures others { OnTrue result ((self.new.stack ≡ self.old.stack)
             × (self.new.number ≡ self.old.number)) }
         ensures same { OnFalse result (self.new ≡ self.old) }
-        // If the new piece doesn't continue it, the held piece is complete, whatever units follow.
+        // If the new piece doesn't continue the held one, the held one is complete, whatever units follow.
         ensures apart { OnFalse result ((rest : List BlockUnit)
             → fewest (held_units self.old.piece ++ units_of piece.now ++ rest)
             ≡ fewest (held_units self.old.piece) ++ fewest (units_of piece.now ++ rest)) }
@@ -105,7 +105,7 @@ impl<'s> HeldPiece<'s> {
         true
     }
 
-    /// Whether a piece continues the held one.
+    /// Whether `piece` continues the held one.
     #[inline(always)]
     fn goes_on(&self, piece: &Piece) -> bool
         ensures { result ≡ goes_on self.now.piece piece.now }
@@ -138,7 +138,7 @@ impl<'s> HeldPiece<'s> {
             ≡ record { stack = self.old.stack; number = self.old.number; piece = None }) }
     {
         if let Some(range) = &self.range {
-            // The old range stays until the next piece replaces it, so that the field isn't cleared in between.
+            // The old range stays in its field until the next piece replaces it, so the field isn't cleared in between.
             self.text.note(range.start, range.len);
             if let Err(fault) = put_range(
                 writer,
@@ -164,8 +164,8 @@ impl<'s> HeldPiece<'s> {
         Ok(())
     }
 
-    /// Returns the range to hold after the held piece and the range `next`, and holds none. The held piece is
-    /// written, unless `next` continues it; if that fails, neither is held.
+    /// Returns the range to hold after the held piece and `next`, and holds nothing itself. Writes the held piece
+    /// first, unless `next` continues it. If that write fails, neither is held.
     #[inline(always)]
     pub(crate) fn first_of_row<W: Output>(
         &mut self,
@@ -194,8 +194,8 @@ impl<'s> HeldPiece<'s> {
         }
     }
 
-    /// Returns the range to hold after `range` and `next`: both as one if `next` continues `range`, or else `next`,
-    /// after `range` was written. If that fails, neither is held.
+    /// Returns the range to hold after `range` and `next`: both as one if `next` continues `range`. Otherwise writes
+    /// `range` and returns `next`; if that write fails, neither is held.
     #[inline(always)]
     pub(crate) fn next_of_row<W: Output>(
         &mut self,
@@ -240,7 +240,7 @@ impl<'s> HeldPiece<'s> {
         self.range = Some(range);
     }
 
-    /// Writes the line of the held piece, which is no longer held then. Writes nothing if none is held.
+    /// Writes the line of the held piece, which is then no longer held. Writes nothing if none is held.
     #[inline(always)]
     pub(crate) fn write<W: Output>(&mut self, writer: &mut W) -> Result<(), OutFault>
         ensures wrote { Wrote (W.past writer.old) (W.past writer.new) result
@@ -264,7 +264,7 @@ impl<'s> HeldPiece<'s> {
         self.write_other(writer)
     }
 
-    /// Writes the line of the held piece, which is neither a read nor a write. Writes nothing if none is held.
+    /// Writes the line of the held piece, which isn't a read or a write. Writes nothing if none is held.
     #[inline(always)]
     fn write_other<W: Output>(&mut self, writer: &mut W) -> Result<(), OutFault>
         requires { HoldsNoRange self.old.piece }
@@ -281,7 +281,7 @@ impl<'s> HeldPiece<'s> {
         wrote
     }
 
-    /// Writes the line of a range that is the whole answer to a request, so that nothing needs to be held.
+    /// Writes the line of a range that is the whole answer to a request. Nothing is held.
     #[inline(always)]
     pub(crate) fn write_range<W: Output>(
         &self,
@@ -292,13 +292,13 @@ impl<'s> HeldPiece<'s> {
         ensures { Wrote (W.past writer.old) (W.past writer.new) result
             (pieces_text self.now.stack self.now.number (fewest (units_of (piece_of range.now)))) }
     {
-        // The next request's range is unlikely to be the same, so no text is kept for it.
+        // The next request is unlikely to have the same range, so the text of this one isn't kept.
         let none = RangeText::new();
         put_range(writer, &self.prefix, &self.ends, &none, self.disks, range)
     }
 }
 
-/// Whether the second piece continues the first; neither is a read or a write.
+/// Whether `piece` continues `held`. Neither is a read or a write.
 #[inline(always)]
 fn goes_on(held: &Piece, piece: &Piece) -> bool
     requires held { IsNoRange held.now }
@@ -329,7 +329,7 @@ fn goes_on(held: &Piece, piece: &Piece) -> bool
     }
 }
 
-/// A piece that is longer by `more` sectors.
+/// The piece `held`, lengthened by `more` sectors.
 #[inline(always)]
 fn longer(disks: &DiskTexts<'_>, held: &Piece, more: u64) -> Piece
     requires { Fits disks.now (first_unit held.now) (piece_len held.now + more) }
@@ -337,7 +337,7 @@ fn longer(disks: &DiskTexts<'_>, held: &Piece, more: u64) -> Piece
     ensures len { piece_len result ≡ piece_len held.now + more }
     ensures lies { IsOnDisks disks.now result }
 {
-    // A `Stack` is sound, so its disks are short enough that the sum can't overflow.
+    // A `Stack` is sound, so its disks are short enough that the new length can't overflow.
     disks.recall_soundness();
     held.with_len(held.len() + more)
 }

@@ -1,7 +1,7 @@
-//! Joins: sinks that write lines.
+//! Joins: sinks that join pieces and write them as lines.
 //!
-//! A join holds one piece while others continue it, so a request needs no memory however long it is. What a join took
-//! is stated in whole pieces, whatever units follow; keep that when you change it.
+//! A join holds one piece as long as others continue it, so a longer request needs no more memory. The contracts
+//! describe what a join took in whole pieces, whatever units follow. Keep it so when you change them.
 
 ghost use Rattle.dm_stream.specs.Prelude.{ℕ, List, None, Some, Description, LiesOnDisk, BlockUnit, IsOnDisk, disk_unit, units_in, units_of, HasWrittenTo, IsSameReference, Wrote, IsHeld, held_diskless, held_units, piece_of, join_past, AreFewest, fewest, pieces_text, join_lawful};
 ghost use Rattle.dm_stack.specs.declared.id.Lower.TheVariants.{Disk};
@@ -15,11 +15,11 @@ use dm_map::{Home, Piece, Sink};
 use dm_stack::{Leg, Legs};
 use dm_table::{Op, OutFault, Output};
 
-/// A sink that joins the pieces of a request into the fewest pieces, and writes each as a line.
+/// A sink that joins the units of a request into the fewest pieces, and writes one line for each.
 ///
-/// It borrows its caller's writer until it ends. Before a piece that doesn't continue the held one, the held one is
-/// written; if that fails, neither is held, and only a prefix of the line was written. The sink's room is how many
-/// sectors of 512 bytes a held piece without a disk can grow before its length exceeds 64 bits.
+/// A join borrows its caller's writer until the join ends. If a piece doesn't continue the held one, the held one is
+/// written first; if that write fails, neither is held, and only a prefix of the line was written. The sink's room is
+/// how many 512-byte sectors a held piece without a disk can grow before its length exceeds 64 bits.
 #[derive(Drop)]
 pub struct Join<'s, W> {
     pub(crate) held: HeldPiece<'s>,
@@ -27,8 +27,8 @@ pub struct Join<'s, W> {
 }
 
 impl<'s, W: Output> Join<'s, W> {
-    /// A join for requests to the devices of a stack, made with the texts of the stack's disks. It holds nothing, and
-    /// the request number is 0.
+    /// A join for requests to the devices of a stack; `texts` are those of the stack's disks. The join holds nothing,
+    /// and the request number is 0.
     pub fn new(texts: &'s DiskTexts<'s>, writer: &'s mut W) -> Join<'s, W>
         ensures nothing { result.held ≡ record { stack = texts.now; number = 0; piece = None } }
         ensures writer { result.writer.now ≡ writer.old }
@@ -40,7 +40,7 @@ impl<'s, W: Output> Join<'s, W> {
         }
     }
 
-    /// Sets the number of the next request. The request before is finished, so nothing is held.
+    /// Sets the number of the next request. The previous request is finished, so no piece is held.
     #[inline(always)]
     pub fn begin(&mut self, number: u64)
         requires { self.old.held.piece ≡ None }
@@ -52,10 +52,10 @@ impl<'s, W: Output> Join<'s, W> {
         self.held.set_number(number);
     }
 
-    /// Writes the held piece, at the end of a request. Nothing is held afterwards.
+    /// Writes the held piece at the end of a request. No piece is held afterwards.
     ///
-    /// `OutFault` if a write failed: a proper prefix of the line was written. Cost: as many writes as the line takes,
-    /// and none if nothing is held. Allocates nothing.
+    /// `OutFault` if a write failed; then only a proper prefix of the line was written. Cost: the writes that one
+    /// line needs, or none if nothing is held. Allocates nothing.
     #[inline(always)]
     pub fn finish(&mut self) -> Result<(), OutFault>
         ensures wrote { Wrote (W.past self.old.writer.now) (W.past self.new.writer.now) result
@@ -63,15 +63,15 @@ impl<'s, W: Output> Join<'s, W> {
         ensures nothing { self.new.held
             ≡ record { stack = self.old.held.stack; number = self.old.held.number; piece = None } }
         ensures same_reference { IsSameReference self.old.writer self.new.writer }
-        // `fewest` gives the only pieces of the units of which none continues the one before, and no others are fewer.
+        // No piece of `fewest units` continues the one before. No other pieces have that property, and none are fewer.
         ensures fewest { (units : List BlockUnit) → AreFewest units (fewest units) }
     {
         self.held.write(&mut *self.writer)
     }
 
-    /// Writes a range that is the whole answer to a request. Nothing is held, before or afterwards.
+    /// Writes a range that is the whole answer to a request. No piece is held, before or afterwards.
     ///
-    /// `OutFault` if a write failed: a proper prefix of the line was written. Allocates nothing.
+    /// `OutFault` if a write failed; then only a proper prefix of the line was written. Allocates nothing.
     #[inline(always)]
     pub(crate) fn write_range(&mut self, range: &DiskRange) -> Result<(), OutFault>
         requires { IsHeld self.old.held.stack (Some (piece_of range.now)) }
@@ -83,7 +83,7 @@ impl<'s, W: Output> Join<'s, W> {
         self.held.write_range(range, &mut *self.writer)
     }
 
-    /// Makes the writer pass on what it gathered, before requests are read. Nothing is added or flushed.
+    /// Makes the writer pass on its buffered bytes, before requests are read. Writes nothing more, and flushes nothing.
     pub(crate) fn drain(&mut self)
         ensures held { self.new.held ≡ self.old.held }
         ensures moved { HasWrittenTo W.past self.old.writer self.new.writer 0 }
@@ -93,8 +93,7 @@ impl<'s, W: Output> Join<'s, W> {
         self.writer.drain();
     }
 
-    /// Ends the join after its last request was finished, and returns its writer unchanged: nothing is written or
-    /// flushed.
+    /// Ends the join once its last request is finished, and returns its writer unchanged. Writes and flushes nothing.
     pub(crate) fn end(self) -> &'s mut W
         requires { self.held.piece ≡ None }
         ensures writer { result.now ≡ self.entry.writer.now }
@@ -124,7 +123,7 @@ impl<W: Output> Sink for Join<'_, W> {
         Ok(())
     }
 
-    /// Keeps the held range in a local variable between two legs.
+    /// Keeps the held range in a local variable from one leg to the next.
     #[inline(always)]
     fn disk_legs(&mut self, op: Op, mut legs: Legs<'_>) -> Result<(), OutFault> {
         let Some(leg) = legs.next_leg() else {
@@ -143,7 +142,7 @@ impl<W: Output> Sink for Join<'_, W> {
     }
 }
 
-/// The range of a leg that lies on a disk.
+/// The range of a leg that lies directly on a disk.
 #[inline(always)]
 fn range_of(op: Op, leg: &Leg<'_>) -> DiskRange
     requires { LiesOnDisk leg.now.below }

@@ -1,16 +1,16 @@
 //! The letters of reads and writes.
 //!
-//! They are here for speed alone, because an `Op` says the same: RESULTS.md has the gain as *letter and disk's name
-//! in one array*. Measure small requests before and after a change.
+//! An `Op` also distinguishes reads from writes; letters only save time. RESULTS.md has the gain as *letter and
+//! disk's name in one array*. Measure small requests before and after a change.
 
 ghost use Rattle.dm_stream.specs.Prelude.{not};
 ghost use Rattle.std.specs.Prelude.{◌≡◌, if◌then◌else◌};
 
 use std::marker::Model;
 
-/// The letter of a write or of a read. In contracts, its value says whether it is that of a write.
+/// The letter of a read or a write. In contracts, the value is true for a write.
 ///
-/// It is kept as a whole word, 1 or 0, because around a single byte the bytes beside it would be cleared at each store.
+/// Kept as a whole word, 1 or 0, because with a single byte each store would also clear the bytes next to it.
 #[derive(Clone, Copy, Drop)]
 pub(crate) struct Letter {
     word: u64,
@@ -30,7 +30,7 @@ impl Model for Letter {
 }
 
 impl Letter {
-    /// The letter of a write, or else of a read.
+    /// The letter of a write if `is_write` is true, or else of a read.
     #[inline(always)]
     pub(crate) fn new(is_write: bool) -> Letter
         ensures { result ≡ is_write }
@@ -48,7 +48,7 @@ impl Letter {
         self.word as usize
     }
 
-    /// Whether both letters are the same.
+    /// Whether two letters are the same.
     #[inline(always)]
     pub(crate) fn is(self, other: Letter) -> bool
         ensures { result ≡ (if self then other else not other) }

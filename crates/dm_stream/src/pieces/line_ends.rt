@@ -1,10 +1,9 @@
-//! Ends of lines: short lengths with their newline, made once and then copied whole.
+//! Ends of lines: each short length with a newline, made once and then copied whole.
 //!
-//! Most requests have fewer than 1,000 sectors. Copying from here needs no jump that depends on how many digits the
-//! length has.
+//! Most requests have fewer than 1,000 sectors. Copying the end of a line needs no branch on the number of digits.
 //!
-//! This is here for speed alone: RESULTS.md has its gain as *texts kept ready*. It relies on the table that `new`
-//! makes. Change it only if you measure small requests, and large ones over 16 columns, before and after.
+//! This table only saves time: RESULTS.md has its gain as *texts kept ready*. Change it only if you measure small
+//! requests, and large ones over 16 columns, before and after.
 
 ghost use Rattle.dm_stream.specs.Prelude.{[], decimal, length, IsPut, code, AreMade, IsLineEnd, line_end};
 ghost use Rattle.dm_stream.specs.declared.pieces.line_ends.TheConstants.{LENGTHS, LONGEST, END_BYTES};
@@ -12,16 +11,16 @@ ghost use Rattle.std.specs.Prelude.{◌≡◌, ◌+◌, ◌++◌, ◌∷◌, ◌
 
 use dm_table::{put_bytes, put_digits};
 
-/// The bytes of the longest line end: a length of 20 digits and a newline.
+/// The length of the longest line end: 20 digits and a newline.
 const LONGEST: usize = 21;
 
-/// How many lengths have a text in the table.
+/// How many lengths have an entry in the table: those from 0 to 999.
 const LENGTHS: usize = 1000;
 
-/// The bytes of a table entry: up to three digits and a newline, and in the last byte how many bytes these are.
+/// The size of a table entry: up to three digits and a newline, and in the last byte how many bytes those are.
 const END_BYTES: usize = 8;
 
-/// The ends of lines of each length below 1,000.
+/// The line ends for all lengths below 1,000.
 #[derive(Drop)]
 pub(crate) struct LineEnds {
     ends: [[u8; END_BYTES]; LENGTHS],
@@ -40,7 +39,7 @@ impl LineEnds {
         LineEnds { ends }
     }
 
-    /// Puts a length and a newline at offset `at` of a block, and returns where they end.
+    /// Puts a length and a newline at offset `at` of a block, and returns the offset after them.
     #[inline(always)]
     pub(crate) fn put_into(&self, block: &mut [u8], at: usize, len: u64) -> usize
         requires { at + LONGEST ≤ length block.old }
@@ -54,7 +53,7 @@ impl LineEnds {
         put_bytes(block, at, b"\n")
     }
 
-    /// Puts a length and a space, for the middle of a line, at offset `at` of a block, and returns where they end.
+    /// Puts a length and a space at offset `at` of a block, in the middle of a line. Returns the offset after them.
     #[inline(always)]
     pub(crate) fn put_inside(&self, block: &mut [u8], at: usize, len: u64) -> usize
         requires { at + LONGEST ≤ length block.old }
@@ -62,11 +61,11 @@ impl LineEnds {
         ensures few { result ≤ at + LONGEST }
     {
         let end = self.put_into(block, at, len);
-        // The space replaces the newline.
+        // The space overwrites the newline.
         put_bytes(block, end - 1, b" ")
     }
 
-    /// Puts a length below 1,000 and a newline, copied from the table.
+    /// Puts a length below 1,000 and a newline, both copied from the table.
     #[inline(always)]
     fn put_short(&self, block: &mut [u8], at: usize, len: u64) -> usize
         requires short { len < LENGTHS }
@@ -80,7 +79,7 @@ impl LineEnds {
     }
 }
 
-/// The table entry for a length below 1,000: its digits, a newline, and how many bytes these are.
+/// The table entry for a length below 1,000: its digits, a newline, and in the last byte how many bytes those are.
 fn line_end(len: usize) -> [u8; END_BYTES]
     requires { len < LENGTHS }
     ensures { IsLineEnd len result }

@@ -1,8 +1,8 @@
-//! What each line of a request begins with: the request's number and a space.
+//! The prefix of each line of a request: the request's number and a space.
 //!
-//! Request numbers mostly rise by one, so a change of only the last digit is made in place. The array is copied whole.
+//! Request numbers mostly rise by one, so often only the last digit is overwritten. The array is copied whole.
 //!
-//! This is here for speed alone: RESULTS.md has its gain as *texts kept ready*. It relies on the array always holding
+//! This module only saves time: RESULTS.md has its gain as *texts kept ready*. It relies on the array always holding
 //! the text of its number. Change it only if you measure small requests before and after.
 
 ghost use Rattle.dm_stream.specs.Prelude.{length, take, IsPut, number_prefix};
@@ -11,17 +11,17 @@ ghost use Rattle.std.specs.Prelude.{◌≡◌, ◌+◌, ◌≤◌};
 use dm_table::{put_array, put_bytes, put_digits};
 use std::marker::Model;
 
-/// The bytes of the array: a number of 20 digits, a space, and padding that makes the copy cheap.
+/// The length of the array: a number of 20 digits, a space, and padding that makes the copy cheap.
 pub(crate) const PREFIX_BYTES: usize = 32;
 
-/// A number and a space as text, at the front of the array.
+/// A request's number and a space as text, at the front of an array.
 #[derive(Drop)]
 pub(crate) struct NumberPrefix {
     number: u64,
-    /// The number with 0 for its last digit.
+    /// The number with its last digit replaced by 0.
     tens: u64,
     text: [u8; PREFIX_BYTES],
-    /// Where the text ends: two bytes after the offset of its last digit.
+    /// The offset after the text, which is two more than the offset of the last digit.
     end: usize,
 }
 
@@ -41,7 +41,7 @@ impl Model for NumberPrefix {
 }
 
 impl NumberPrefix {
-    /// The prefix of the number 0.
+    /// The prefix for the number 0.
     pub(crate) fn new() -> NumberPrefix
         ensures { result ≡ 0 }
     {
@@ -55,7 +55,7 @@ impl NumberPrefix {
         }
     }
 
-    /// Sets the number.
+    /// Changes the prefix to that of `number`.
     #[inline(always)]
     pub(crate) fn set(&mut self, number: u64)
         ensures { self.new ≡ number }
@@ -69,7 +69,7 @@ impl NumberPrefix {
         self.number = number;
     }
 
-    /// Puts the number and a space at offset `at` of a block, and returns where they end.
+    /// Puts the number and a space at offset `at` of a block, and returns the offset after them.
     #[inline(always)]
     pub(crate) fn put_into(&self, block: &mut [u8], at: usize) -> usize
         requires { at + PREFIX_BYTES ≤ length block.old }
@@ -81,7 +81,7 @@ impl NumberPrefix {
     }
 }
 
-/// Puts a number and a space at the front of an array, and returns where they end.
+/// Puts a number and a space at the front of an array, and returns the offset after them.
 #[cold]
 #[inline(never)]
 fn put_prefix(text: &mut [u8], number: u64) -> usize

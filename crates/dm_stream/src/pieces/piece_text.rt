@@ -1,12 +1,12 @@
-//! The lines of pieces, as texts that put themselves into a block.
+//! The lines of pieces, as texts that are put into a block.
 //!
-//! Reads and writes come by the hundreds of millions, so their lines are put by inlined code; other kinds are put by
-//! a function that isn't inlined. A new kind of piece is an arm of `put_other` or `put_copy_or_fill` here, and of
-//! `unit_text` in `specs/pieces/PieceText`.
+//! There are hundreds of millions of reads and writes, so the code for their lines is inlined; other kinds of pieces
+//! are put by a function that isn't. A new kind of piece needs an arm in `put_other` or `put_copy_or_fill` here, and
+//! one in `unit_text` in `specs/pieces/PieceText`.
 //!
-//! Both that and the arrays that lines are copied from are for speed alone: RESULTS.md has the gain as *texts kept
-//! ready*. It relies on no line being longer than `TEXT_ROOM`. Change it only if you measure small requests, and
-//! large ones over 16 columns, before and after.
+//! Both that and the arrays that lines are copied from only save time: RESULTS.md has the gain as *texts kept ready*.
+//! No line may be longer than `TEXT_ROOM`. Change the code only if you measure small requests, and large ones over 16
+//! columns, before and after.
 
 ghost use Rattle.dm_stream.specs.Prelude.{[], length, decimal, IsPut, disk_name_at, CopyOf, FillOf, IsOnDisks, first_unit, piece_len, Wrote, code, disk_text, IsNoRange, piece_of, piece_view, IsOther, piece_text, sector_text, unit_text, IsKept};
 ghost use Rattle.std.specs.Prelude.{◌≡◌, ◌++◌, ◌+◌, ◌<◌, ◌≤◌, ◌∷◌};
@@ -22,7 +22,7 @@ use dm_stack::DiskId;
 use dm_table::{OutFault, Output, Text, put_bytes, put_digits};
 use std::marker::Model;
 
-/// The line of a read or write of a range of a stack's disk, with the request's number.
+/// The line of a read or write of a range on a stack's disk, with the request's number.
 #[derive(Drop)]
 struct RangeLine<'a> {
     prefix: &'a NumberPrefix,
@@ -92,7 +92,7 @@ impl<'a> Text for DisklessLine<'a> {
     }
 }
 
-/// The line of a copy or a fill on a stack's disks, with the request's number.
+/// The line of a copy or a fill on disks of a stack, with the request's number.
 #[derive(Drop)]
 struct CopyLine<'a> {
     prefix: &'a NumberPrefix,
@@ -123,8 +123,8 @@ impl<'a> Text for CopyLine<'a> {
     }
 }
 
-/// Makes a writer put the line of a read or write of a range. If `text` keeps any text, it is that of this range.
-/// Fails if the writer fails.
+/// Makes a writer put the line of a read or write of a range. The text kept in `text`, if any, must be that of the same
+/// range. Fails if the writer fails.
 #[inline(always)]
 pub(crate) fn put_range<W: Output>(
     writer: &mut W,
@@ -148,8 +148,8 @@ pub(crate) fn put_range<W: Output>(
     })
 }
 
-/// Makes a writer put the line of a piece that is neither a read nor a write. Never inlined, so that the code for
-/// ranges has the registers to itself.
+/// Makes a writer put the line of a piece that isn't a read or a write. Never inlined, so that the code for ranges
+/// has all registers to itself.
 #[inline(never)]
 pub(crate) fn put_other<W: Output>(
     writer: &mut W,
@@ -181,7 +181,7 @@ pub(crate) fn put_other<W: Output>(
     }
 }
 
-/// Puts the line of a copy or a fill, after the request's number, at offset `at` of a block, and returns where it ends.
+/// Puts the line of a copy or fill, without the request's number, into a block at `at`; returns the offset after it.
 #[inline(always)]
 fn put_copy_or_fill(
     block: &mut [u8],
@@ -210,7 +210,7 @@ fn put_copy_or_fill(
     }
 }
 
-/// Puts the line of a copy, after the request's number, at offset `at` of a block.
+/// Puts the line of a copy, without the request's number, at offset `at` of a block, and returns the offset after it.
 fn put_copy(
     block: &mut [u8],
     at: usize,
@@ -237,7 +237,7 @@ fn put_copy(
     put_bytes(block, at, b"\n")
 }
 
-/// Puts the line of a fill, after the request's number, at offset `at` of a block.
+/// Puts the line of a fill, without the request's number, at offset `at` of a block, and returns the offset after it.
 fn put_fill(
     block: &mut [u8],
     at: usize,
@@ -259,7 +259,7 @@ fn put_fill(
     put_bytes(block, at, b"\n")
 }
 
-/// Puts the name of a disk and a sector at offset `at` of a block.
+/// Puts a disk's name and a sector at offset `at` of a block, and returns the offset after them.
 #[inline(always)]
 fn put_sector(
     block: &mut [u8],

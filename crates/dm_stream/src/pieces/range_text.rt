@@ -1,12 +1,12 @@
 //! The range that ends a line: a start, a length and a newline.
 //!
-//! Over many columns, the same range comes once for each column. Its text is kept when it comes for the second time,
-//! and then copied whole; the range after one that was repeated is kept at once. For any other range, the digits are
-//! written where they belong, and the end of the line is copied if its length is short.
+//! Requests over many columns repeat a range once for each column. The text of a range is kept when the range comes
+//! for the second time, and then copied whole; after a repeated range, the next one is kept at once. Any other range
+//! is written digit by digit, except that a short length is copied with its newline.
 //!
-//! This is here for speed alone: RESULTS.md has its gain as *the kept text of a range*. It relies on `note`, which is
-//! called before each line. Change it only if you measure large requests over 16 columns, and others that never
-//! repeat a range, before and after.
+//! This module only saves time: RESULTS.md has its gain as *the kept text of a range*. `note` must be called before
+//! each line. Change the module only if you measure large requests over 16 columns, and others that never repeat a
+//! range, before and after.
 
 ghost use Rattle.dm_stream.specs.Prelude.{ℕ, length, IsPut, range_text, IsKept};
 ghost use Rattle.std.specs.Prelude.{◌≡◌, ◌+◌, ◌≤◌};
@@ -15,18 +15,18 @@ use crate::pieces::line_ends::LineEnds;
 use dm_table::{put_array, put_bytes, put_digits};
 use std::marker::Model;
 
-/// The bytes of the array: two numbers, a space, a newline, and padding that makes the copy cheap.
+/// The length of the array: two numbers, a space, a newline, and padding that makes the copy cheap.
 const RANGE_BYTES: usize = 48;
 
-/// The range of the last line, and its text if the range was repeated or is likely to be.
+/// The range of the last line, and its text if the range was repeated or will probably be.
 #[derive(Drop)]
 pub(crate) struct RangeText {
     start: u64,
     len: u64,
     text: [u8; RANGE_BYTES],
-    /// Where the text ends: 0 if none is kept.
+    /// The offset after the text, or 0 if no text is kept.
     end: usize,
-    /// Whether the range was repeated.
+    /// Whether the last two lines had this same range.
     came_again: bool,
 }
 
@@ -44,7 +44,7 @@ impl Model for RangeText {
 }
 
 impl RangeText {
-    /// No range yet, and no text.
+    /// A `RangeText` without a range and without a text.
     #[inline(always)]
     pub(crate) fn new() -> RangeText
         ensures kept { (start len : ℕ) → IsKept result start len }
@@ -58,8 +58,8 @@ impl RangeText {
         }
     }
 
-    /// Notes the range of the next line. Its text is kept if the line before had the same range, or if the range
-    /// before it was repeated. What is kept afterwards is the text of this range.
+    /// Notes the range of the next line. Keeps the text of this range if the previous line had the same range, or if
+    /// the previous range was repeated; otherwise keeps no text.
     #[inline(always)]
     pub(crate) fn note(&mut self, start: u64, len: u64)
         ensures kept { IsKept self.new start len }
@@ -79,7 +79,7 @@ impl RangeText {
         }
     }
 
-    /// Keeps the text of a range. Never inlined, because it is rare.
+    /// Keeps the text of a range. Never inlined, because calls are rare.
     #[inline(never)]
     fn keep(&mut self, start: u64, len: u64)
         ensures { self.new ≡ range_text start len }
@@ -89,7 +89,7 @@ impl RangeText {
         self.end = put_range(&mut self.text, 0, start, len);
     }
 
-    /// Puts a range at offset `at` of a block, and returns where it ends. If a text is kept, it is that of this range.
+    /// Puts a range at offset `at` of a block; returns the offset after it. A kept text is that of this range.
     #[inline(always)]
     pub(crate) fn put_into(
         &self,
@@ -111,8 +111,8 @@ impl RangeText {
     }
 }
 
-/// Puts a start, a length and a newline at offset `at` of a block, and returns where they end. A short length and its
-/// newline are copied from `ends`.
+/// Puts a start, a length and a newline at offset `at` of a block, and returns the offset after them. A short length
+/// is copied from `ends` with its newline.
 #[inline(never)]
 fn put_next_range(ends: &LineEnds, block: &mut [u8], at: usize, start: u64, len: u64) -> usize
     requires { at + RANGE_BYTES ≤ length block.old }
@@ -124,7 +124,7 @@ fn put_next_range(ends: &LineEnds, block: &mut [u8], at: usize, start: u64, len:
     ends.put_into(block, at, len)
 }
 
-/// Puts a start, a length and a newline, all digit by digit.
+/// Puts a start, a length and a newline at offset `at` of a block, all digit by digit. Returns the offset after them.
 #[inline(never)]
 fn put_range(block: &mut [u8], at: usize, start: u64, len: u64) -> usize
     requires { at + RANGE_BYTES ≤ length block.old }

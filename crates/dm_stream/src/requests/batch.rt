@@ -1,12 +1,12 @@
-//! Requests that are answered in batches, so that their waits for memory overlap.
+//! Answers requests in batches, so that waits for memory overlap.
 //!
-//! Over long tables, most of an answer's time is waiting for memory. So all requests at the front of the held bytes
-//! are parsed, the handler is told of them, and only then is the first one answered. The input isn't read in between,
-//! so no answer is later than it would be one by one.
+//! With long tables, an answer mostly waits for memory. So all requests at the front of the held bytes are parsed
+//! first and announced to the handler, and then answered one by one. The input isn't read in between, so no answer
+//! comes later than without batches.
 //!
-//! This is here for speed alone: RESULTS.md has its gain as *batches and reading ahead*. It relies on `front`, and on
-//! `Handler::prefetch` answering nothing. Change it only if you measure random requests on 65,536 lines, random first
-//! writes, and consecutive requests, before and after.
+//! Batches only save time: RESULTS.md has their gain as *batches and reading ahead*. They rely on `front`, and on
+//! `Handler::prefetch` answering nothing. Change them only if you measure random requests on 65,536 lines, random
+//! first writes, and consecutive requests, before and after.
 
 ghost use Rattle.dm_stream.specs.Prelude.{[], length, drop, IfErr, OnOk, Some, All, AnswersFronts, AreFirst, front_requests, device_of, IsAmong};
 ghost use Rattle.dm_stream.specs.declared.requests.handling.TheConstants.{MOST_REQUESTS};
@@ -17,18 +17,18 @@ use crate::requests::handler::Handler;
 use arrayvec::ArrayVec;
 use dm_stack::Stack;
 
-/// The most requests of a batch.
+/// The maximum number of requests in a batch.
 pub(crate) const MOST_FRONTS: usize = 16;
 
-/// How many requests were answered, and how many bytes their lines have, with the newlines.
+/// How many requests were answered, and how many bytes their lines have, newlines included.
 #[derive(Drop)]
 pub(crate) struct Answered {
     pub(crate) count: u64,
     pub(crate) len: usize,
 }
 
-/// Answers as a batch, if `batches` is true, the requests at the front of the held bytes that `front_of` parses.
-/// `done` requests came before them.
+/// Answers the requests at the front of the held bytes that `front_of` parses, as a batch; answers none if `batches`
+/// is false. `done` is how many requests came before.
 #[inline(always)]
 pub(crate) fn answer_in_batches<H: Handler>(
     batches: bool,
@@ -50,7 +50,7 @@ pub(crate) fn answer_in_batches<H: Handler>(
     }
 }
 
-/// Answers a batch of the requests at the front of the held bytes; `done` requests came before them.
+/// Answers a batch of the requests at the front of the held bytes. `done` is how many requests came before.
 #[inline(never)]
 fn answer_batch<H: Handler>(
     stack: &Stack,
@@ -76,8 +76,8 @@ fn answer_batch<H: Handler>(
     })
 }
 
-/// Parses the requests at the front of the held bytes, as long as `front_of` does, up to `MOST_FRONTS`. `done`
-/// requests came before them. Returns how many bytes their lines have.
+/// Parses requests at the front of the held bytes until `front_of` returns None, but at most `MOST_FRONTS`. `done` is
+/// how many requests came before. Returns how many bytes the lines have.
 fn read_fronts<'a>(
     stack: &Stack,
     held: &'a [u8],
@@ -104,7 +104,7 @@ fn read_fronts<'a>(
     len
 }
 
-/// Answers requests whose devices were found, one after the other.
+/// Answers requests one after the other. Their devices are already looked up.
 fn answer_all<H: Handler>(
     stack: &Stack,
     handler: &mut H,

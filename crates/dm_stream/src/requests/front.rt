@@ -1,8 +1,8 @@
-//! Requests at the front of the held bytes, parsed where they are.
+//! Parses requests at the front of the held bytes, without copying them.
 //!
-//! This is here for speed alone, because `handling` can parse any line: RESULTS.md has its gain as *requests read
-//! where they stand*. It relies on `FRONT_ROOM` held bytes, and gives up on every line that it isn't sure of. Change
-//! it only if you measure small requests before and after.
+//! This module only saves time, because `handling` can parse any line: RESULTS.md has the gain as *requests read
+//! where they stand*. At least `FRONT_ROOM` bytes must be held, and lines that aren't in the usual form are left to
+//! `handling`. Change the module only if you measure small requests before and after.
 
 ghost use Rattle.dm_stream.specs.Prelude.{[], length, take, drop, IfSome, Some, line_parts, device_of, Requests, after_requests, line_requests, numbered};
 ghost use Rattle.dm_stream.specs.declared.requests.lines.TheConstants.{MOST_LINE_BYTES};
@@ -13,10 +13,10 @@ use crate::requests::handling::MOST_REQUESTS;
 use dm_stack::{DeviceId, Stack};
 use dm_table::{Op, Request, first_op, front_request};
 
-/// The fewest held bytes for which a request is parsed where it is.
+/// With fewer held bytes than this, `front_of` parses nothing.
 const FRONT_ROOM: usize = 64;
 
-/// A request at the front of a text, its device, and the length of its line without the newline.
+/// A request at the front of the held bytes, its device, and the length of its line without the newline.
 #[derive(Drop)]
 pub struct Front<'a> {
     pub request: Request<'a>,
@@ -24,7 +24,7 @@ pub struct Front<'a> {
     pub(crate) len: usize,
 }
 
-/// The value of an unused place in a batch.
+/// The value in an unused place of a batch.
 impl Default for Front<'_> {
     fn default() -> Self {
         Front {
@@ -41,8 +41,8 @@ impl Default for Front<'_> {
     }
 }
 
-/// The request of line `number` at the front of the held bytes, with its device; None if it isn't in the usual form,
-/// or too near the end of the held bytes.
+/// The request of line `number` at the front of the held bytes, with its device. None if the line isn't in the usual
+/// form, or too near the end of the held bytes.
 #[inline(always)]
 pub(crate) fn front_of<'a>(stack: &Stack, held: &'a [u8], number: u64) -> Option<Front<'a>>
     ensures good { IfSome result

@@ -1,8 +1,8 @@
-//! Handlers: who answers requests.
+//! Handlers, which answer requests.
 //!
-//! Reading lines, refusing bad ones and finding devices is done in one place for all handlers. A handler says what a
-//! request does and why it stops. Its relations are about lists of requests, so the reader of lines needs to know
-//! nothing about answers.
+//! Lines are read, bad ones refused and devices looked up in one place for all handlers. A handler defines what a
+//! request does and why to stop at one. Its relations are about lists of requests, so the code that reads lines needs
+//! to know nothing about answers.
 
 ghost use Rattle.dm_stream.specs.Prelude.{List, [], length, OnOk, IfErr, IfOk, InputPast, after_read, Description, device_of, NumberedRequest, numbered};
 ghost use Rattle.std.specs.Prelude.{◌≡◌, ◌≤◌, ◌∷◌, ◌++◌};
@@ -13,22 +13,22 @@ use dm_table::{InFault, Input, Request};
 
 /// Answers requests to the devices of a stack, one after the other.
 pub trait Handler {
-    /// What the answers come from; answering requests changes it.
+    /// What requests are answered from, such as a mapper. Answering changes it.
     type Source;
 
     /// Why a request was not answered completely.
     type Fault: Drop;
 
-    /// The handler is ready for a request to the stack.
+    /// The handler is ready to answer a request to a device of the stack.
     ghost ready: { Description → Self → Self.Source → Type 0 };
 
-    /// Between the two states, these requests were answered, in this order.
+    /// Between an old and a new state, exactly the requests of the list were answered, in this order.
     ghost answered: { Description → Self → Self.Source → List NumberedRequest → Self → Self.Source → Type 0 };
 
-    /// Between the two states, these requests were answered up to the last one, at which the handler stopped.
+    /// Between an old and a new state, the requests were answered up to the last, at which the handler stopped.
     ghost stopped: { Description → Self → Self.Source → List NumberedRequest → Self.Fault → Self → Self.Source → Type 0 };
 
-    /// Answers a request to the device of its name, or stops at it; `device` is None if no device has that name.
+    /// Answers a request, or stops at it. `device` is the one the request names; None if no device has that name.
     fn handle(
         &mut self,
         stack: &Stack,
@@ -44,42 +44,42 @@ pub trait Handler {
         ensures stopped { IfErr result
             (λ fault. stopped stack.now self.old source.old (numbered request.now ∷ []) fault self.new source.new) };
 
-    /// Whether requests are read in batches: then `prefetch` is called for a batch before its first request is
-    /// answered, which pays if answers wait for memory. Called once a run.
+    /// Whether requests are read in batches, which pays if answers wait for memory: `prefetch` is called for a batch
+    /// before its first request is answered. Called once in a run.
     fn batches(&self, _stack: &Stack) -> bool {
         false
     }
 
-    /// Announces requests that will be answered soon: what their answers read first can be read now, so that waits
-    /// for memory overlap. Nothing is answered.
+    /// Announces requests that will be answered soon, so that the handler can start reading what their answers need,
+    /// and waits for memory overlap. Answers nothing.
     fn prefetch(&mut self, stack: &Stack, source: &Self::Source, fronts: &[Front<'_>])
         ensures answered { answered stack.now self.old source.now [] self.new source.now }
         ensures ready { ready stack.now self.old source.now → ready stack.now self.new source.now }
     {}
 
-    /// If nothing changes, an empty list of requests is answered.
+    /// If nothing changes, the empty list of requests was answered.
     ghost answered_none: { (stack : Description) (h : Self) (s : Self.Source) → answered stack h s [] h s };
 
-    /// Requests that were answered in two parts, one after the other, were answered as a whole.
+    /// Requests that were answered in two consecutive parts were answered as a whole.
     ghost answered_then_answered: { (stack : Description) (a b c : Self) (s t u : Self.Source) (us vs : List NumberedRequest)
         → answered stack a s us b t → answered stack b t vs c u → answered stack a s (us ++ vs) c u };
 
-    /// If the first requests were answered and the handler stopped at the last of the others, it stopped at the last
-    /// of all of them.
+    /// If the first requests were answered, and the handler stopped at the last of the others, it stopped at the last
+    /// of all.
     ghost answered_then_stopped: { (stack : Description) (a b c : Self) (s t u : Self.Source) (us vs : List NumberedRequest)
         (fault : Self.Fault)
         → answered stack a s us b t → stopped stack b t vs fault c u → stopped stack a s (us ++ vs) fault c u };
 }
 
-/// Reads lines from `Q`. A read may wait, so it happens only once all answers are out.
+/// Reads the bytes of requests from `Q`. A read may block, so all answers must be passed on first.
 pub trait ReadsFrom<Q> {
-    /// What the requests delivered so far, as for any input.
+    /// What the requests have delivered so far, as for any input.
     ghost asked: { Q → InputPast };
 
     /// All answers were passed on, or passing them on failed.
     ghost is_out: { Self → Type 0 };
 
-    /// Reads like an input; all answers must be out.
+    /// Reads like an input. All answers must have been passed on.
     fn read(&self, requests: &mut Q, buffer: &mut [u8]) -> Result<usize, InFault>
         requires { is_out self.now }
         ensures within { IfOk result (λ n. n ≤ length buffer.new) }
@@ -88,8 +88,8 @@ pub trait ReadsFrom<Q> {
 
 /// A handler whose requests are read from `Q`.
 pub trait HandlesFrom<Q>: Handler + ReadsFrom<Q> {
-    /// Called when no whole line is held and the next read may wait: passes on the answers gathered so far. Nothing
-    /// is answered.
+    /// Called when no whole line is held, so that the next read may block. Passes on the answers gathered so far;
+    /// answers nothing.
     fn before_read(&mut self)
         ensures answered { (stack : Description) (source : Self.Source)
             → Self.answered stack self.old source [] self.new source }
@@ -98,7 +98,7 @@ pub trait HandlesFrom<Q>: Handler + ReadsFrom<Q> {
         ensures out { Self.is_out self.new };
 }
 
-/// Stands in for a handler where nobody answers the lines of an input, so that it can be read at any time.
+/// Takes the place of a handler if nobody answers the lines of an input, so that the input can be read at any time.
 pub(crate) struct Unanswered;
 
 impl<R: Input> ReadsFrom<R> for Unanswered {

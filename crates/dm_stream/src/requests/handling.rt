@@ -1,7 +1,7 @@
-//! From the bytes of an input to its requests, line by line, handed to whoever answers them.
+//! From the bytes of an input to requests, line by line, which are handed to a handler.
 //!
-//! What is handed on depends only on the bytes and ends that the input delivered. A new check of a line goes into
-//! `request_of`, in the order of `specs/requests/Requests.antt`.
+//! Only the bytes and the end that the input delivered determine which requests are handed on. A new check of a line
+//! belongs in `request_of`, in the order of `specs/requests/Requests.antt`.
 
 ghost use Rattle.dm_stream.specs.Prelude.{[], length, take, drop, Ok, Some, IfOk, IfErr, IfSome, OnErr, OnOk, Description, delivery, IsReadOn, MetNothing, line_parts, HasMet, IsAmong, Requests, after_requests, is_bad, line_requests, numbered, requests_of, word_for};
 ghost use Rattle.std.specs.Prelude.{◌≡◌, ◌≢◌, ◌+◌, ◌<◌, ◌≤◌, ◌∷◌};
@@ -14,10 +14,10 @@ use crate::runs::ending::{Ending, RequestWord};
 use dm_stack::Stack;
 use dm_table::{Request, RequestFault, parse_request};
 
-/// The most requests of a run.
+/// The maximum number of requests in a run.
 pub const MOST_REQUESTS: u64 = 1_000_000_000_000;
 
-/// The word that reports why a line is no request.
+/// The word that reports why a line isn't a request.
 fn word_of(fault: RequestFault) -> RequestWord
     ensures { result ≡ word_for fault }
 {
@@ -46,7 +46,7 @@ fn request_of(line: &[u8], number: u64) -> Result<Request<'_>, RequestWord>
     }
 }
 
-/// Tells the handler that the next read may wait, if no newline is held.
+/// Tells the handler that the next read may block, unless a newline is already buffered.
 fn before_read<Q, H: HandlesFrom<Q>>(handler: &mut H, lines: &Lines)
     ensures answered { (stack : Description) (source : H.Source)
         → H.answered stack handler.old source [] handler.new source }
@@ -59,7 +59,7 @@ fn before_read<Q, H: HandlesFrom<Q>>(handler: &mut H, lines: &Lines)
     }
 }
 
-/// Looks up the device of a request, and hands both to the handler.
+/// Looks up the device of a request, and hands the request and the device to the handler.
 #[inline(never)]
 fn handle_named<H: Handler>(
     stack: &Stack,
@@ -78,11 +78,10 @@ fn handle_named<H: Handler>(
     handler.handle(stack, source, request, device)
 }
 
-/// Hands requests to the devices of a stack to the handler, one after the other, up to the first bad line, the end or
-/// a fault.
+/// Hands the requests of an input to the handler, one after the other, up to the first bad line, the end or a fault.
 ///
-/// `Ok` says which of these it was; all requests before it were answered. Cost: time linear in the bytes read, plus
-/// what the handler takes for each request. Allocates nothing.
+/// `Ok` returns how the requests ended; all requests before that were answered. Cost: time linear in the bytes read,
+/// plus the handler's time for each request. Allocates nothing.
 ///
 /// # Errors
 ///
@@ -96,9 +95,9 @@ pub fn handle_requests<Q, H: HandlesFrom<Q>>(
 ) -> Result<Ending, H::Fault>
     requires { H.ready stack.now handler.old source.old }
     ensures moved { IsReadOn (H.asked requests.old) (H.asked requests.new) }
-    // Any read may meet a fault or the end. So if neither was met, nothing was read after the bad line.
+    // If reading met neither a fault nor the end, nothing was read after the bad line.
     ensures met { IfOk result (λ ending. HasMet ending (H.asked requests.old) (H.asked requests.new)) }
-    // All requests were answered, and the ending is that of the requests themselves.
+    // All delivered requests were answered, and `ending` is how these requests end.
     ensures answered { IfOk result
         (λ ending. H.answered stack.now handler.old source.old
         (requests_of (delivery (H.asked requests.old) (H.asked requests.new))).all handler.new source.new) }
@@ -107,7 +106,7 @@ pub fn handle_requests<Q, H: HandlesFrom<Q>>(
         ≡ Some ending) }
     ensures no_write_fault { IfOk result (λ ending. ending ≢ Ending.WriteFault) }
     ensures ready { OnOk result (H.ready stack.now handler.new source.new) }
-    // The handler stopped at one of the requests.
+    // The handler stopped at one of the delivered requests.
     ensures stopped { IfErr result
         (λ fault. IsAmong (λ first. H.stopped stack.now handler.old source.old first fault handler.new source.new)
         (requests_of (delivery (H.asked requests.old) (H.asked requests.new))).all) }

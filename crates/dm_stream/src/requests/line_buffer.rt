@@ -1,6 +1,6 @@
-//! The buffer that holds lines: where a line ends, room for a read, and the read. These functions work on a plain
-//! slice and two offsets in it, so that `lines` deals only with its value. Held bytes move only if there is too
-//! little room after them: in a buffer full of short lines they stay where they are.
+//! The buffer that holds lines: finding the end of a line, making room, and reading. These functions work on a slice
+//! and two offsets, so `lines` deals only with the held bytes as a value. Held bytes are moved only if there is too
+//! little room behind them; in a buffer full of short lines they stay where they are.
 ghost use Rattle.dm_stream.specs.Prelude.{[], length, take, drop, slice_range, IfOk, MatchOption, given, parts_at, HasRead, code};
 ghost use Rattle.std.specs.Prelude.{◌≡◌, ◌+◌, ◌-◌, ◌<◌, ◌≤◌, ◌∷◌};
 
@@ -8,8 +8,8 @@ use crate::requests::handler::ReadsFrom;
 use dm_table::InFault;
 use memchr::memchr;
 
-/// The length of the first line, if its newline is held. The first `searched` bytes have no newline, and are not
-/// searched again.
+/// The length of the first line, or None if no newline is held. The first `searched` bytes have no newline, and are
+/// not searched again.
 pub(crate) fn line_len(held: &[u8], searched: usize) -> Option<usize>
     requires within { searched ≤ length held.now }
     requires clear { parts_at (code "\n") (take searched held.now) ≡ take searched held.now ∷ [] }
@@ -22,8 +22,8 @@ pub(crate) fn line_len(held: &[u8], searched: usize) -> Option<usize>
     Some(searched + n)
 }
 
-/// Makes room for more than `room` bytes after the bytes from `start` to `end`, and returns where those start now.
-/// They stay where they are if there already is that much room.
+/// Makes room for more than `room` bytes behind the bytes from `start` to `end`, and returns the new offset of those
+/// bytes. They aren't moved if there is already enough room.
 pub(crate) fn make_room(buffer: &mut [u8], start: usize, end: usize, room: usize) -> usize
     requires ordered { start ≤ end }
     requires within { end ≤ length buffer.old }
@@ -38,7 +38,7 @@ pub(crate) fn make_room(buffer: &mut [u8], start: usize, end: usize, room: usize
     0
 }
 
-/// Reads once, into the buffer behind its first `end` bytes.
+/// Reads once, into the buffer behind its first `end` bytes, and returns how many bytes were read.
 pub(crate) fn read_after<Q, H: ReadsFrom<Q>>(
     buffer: &mut [u8],
     end: usize,

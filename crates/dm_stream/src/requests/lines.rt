@@ -1,6 +1,6 @@
-//! The lines of an input, from a buffer that holds what was read and not yet returned. In contracts, its value is
+//! The lines of an input, found in a buffer of bytes that were read but not yet returned. In contracts, the value is
 //! only those bytes, so lines never depend on how reads cut them. Nothing is allocated. The search for a newline
-//! continues where the last one stopped, so each byte is searched once.
+//! continues where the last search stopped, so each byte is searched once.
 ghost use Rattle.dm_stream.specs.Prelude.{[], length, take, drop, IfOk, OnErr, OnTrue, OnFalse, sem, delivery, since, HasRead, IsReadOn, MetNothing};
 ghost use Rattle.std.specs.Io.BufRead.{Rests};
 ghost use Rattle.std.specs.Prelude.{◌≡◌, ◌+◌, ◌≤◌, ◌++◌, ◌≢◌, ◌∷◌};
@@ -10,13 +10,13 @@ use crate::requests::line_buffer::{line_len, make_room, read_after};
 use dm_table::{InFault, Input};
 use std::marker::Model;
 
-/// The most bytes of a line, without its newline.
+/// The maximum length of a line in bytes, not counting its newline.
 pub const MOST_LINE_BYTES: usize = 4096;
 
-/// How many bytes the buffer has.
+/// The size of the buffer in bytes.
 const BUFFER_BYTES: usize = 65536;
 
-/// What comes next in an input.
+/// What comes next in an input: a line, or why there is none.
 #[derive(Clone, Copy, Debug, PartialEq, Eq)]
 pub enum Next<'a> {
     /// A line, without its newline.
@@ -25,13 +25,13 @@ pub enum Next<'a> {
     End,
     /// The input ended cleanly after bytes without a newline.
     Unended,
-    /// A line of more than 4,096 bytes, or that many bytes with no newline so far.
+    /// A line of more than 4,096 bytes, even if its newline hasn't been read yet.
     Long,
     /// The input failed before the next line was complete.
     ReadFault,
 }
 
-/// What comes next in an input; a line is given by its length, because the held bytes begin with it.
+/// Like `Next`, but with only the length of a line, because the held bytes begin with the line.
 enum NextHeld {
     Line(usize),
     End,
@@ -40,7 +40,7 @@ enum NextHeld {
     ReadFault,
 }
 
-/// The lines of an input. In contracts, its value is the bytes that were read and not yet returned.
+/// The lines of an input. In contracts, the value is the bytes that were read but not yet returned.
 #[derive(Drop)]
 pub struct Lines {
     buffer: [u8; BUFFER_BYTES],
@@ -65,7 +65,7 @@ impl Lines {
     ghost use Rattle.dm_stream.specs.requests.NextHeld.{held_answer, FitsIn, IsLook, OnHeldLine};
     ghost use Rattle.dm_stream.specs.contracts.requests.lines.Lines.{the_row};
 
-    /// The lines of an input that was not read yet.
+    /// The lines of an input that hasn't been read yet.
     pub fn new() -> Lines
         ensures { result ≡ [] }
     {
@@ -76,7 +76,7 @@ impl Lines {
         }
     }
 
-    /// The bytes that were read and not yet returned.
+    /// The bytes that were read but not yet returned.
     #[inline(always)]
     pub(crate) fn held(&self) -> &[u8]
         ensures { result.now ≡ self.now }
@@ -85,7 +85,7 @@ impl Lines {
         &buffer[self.start..self.end]
     }
 
-    /// Whether a newline is held, so that the next line needs no read.
+    /// Whether a newline is held, so that the next line can be returned without a read.
     pub(crate) fn has_newline(&self) -> bool
         ensures held { OnTrue result (line_parts self.now ≢ self.now ∷ []) }
         ensures none { OnFalse result (line_parts self.now ≡ self.now ∷ []) }
@@ -109,7 +109,7 @@ impl Lines {
         self.end - self.start
     }
 
-    /// What the held bytes alone settle, if the first `searched` of them have no newline.
+    /// What comes next, if the held bytes alone settle that. The first `searched` of them have no newline.
     fn look(&self, searched: usize) -> Option<NextHeld>
         requires within { searched ≤ length self.now }
         requires clear { line_parts (take searched self.now) ≡ take searched self.now ∷ [] }
@@ -130,7 +130,7 @@ impl Lines {
         }
     }
 
-    /// Reads once, behind the held bytes.
+    /// Reads once, behind the held bytes, and returns how many bytes were read.
     fn fill<Q, H: ReadsFrom<Q>>(&mut self, requests: &mut Q, handler: &H) -> Result<usize, InFault>
         requires room { length self.old ≤ MOST_LINE_BYTES }
         requires out { H.is_out handler.now }
@@ -150,7 +150,7 @@ impl Lines {
         Ok(n)
     }
 
-    /// Reads until the held bytes settle what comes next. A line that was found is still held.
+    /// Reads until the held bytes settle what comes next. If that is a line, it stays in the held bytes.
     fn advance<Q, H: ReadsFrom<Q>>(&mut self, requests: &mut Q, handler: &H) -> NextHeld
         requires { line_parts self.old ≡ self.old ∷ [] → H.is_out handler.now }
         ensures reads { IsReadOn (H.asked requests.old) (H.asked requests.new) }
@@ -181,16 +181,16 @@ impl Lines {
         }
     }
 
-    /// The next line of an input, or why there is none. Only a returned line is removed from the held bytes.
+    /// The next line of an input, or why there is none. Only a line that is returned is removed from the held bytes.
     ///
-    /// Cost: time linear in the bytes read, however they arrive. Allocates nothing.
+    /// Cost: time linear in the bytes read, however reads cut them. Allocates nothing.
     pub fn next<R: Input>(&mut self, input: &mut R) -> Next<'_>
         ensures* after { sem 𝓛 (Rests the_row self.entry (λ new.
             new ≡ left_of (answer_of result)
             (self.old ++ since (R.past input.old).handed (R.past input.new).handed))) }
         // Nothing is read after an end or a fault.
         ensures reads { IsReadOn (R.past input.old) (R.past input.new) }
-        // If a line is returned or is too long, no end and no fault was met.
+        // If a line is returned or is too long, reading met neither the end nor a fault.
         ensures quiet { OnLine result (MetNothing (R.past input.old) (R.past input.new)) }
         ensures answer { answer_of result
             ≡ next_answer (delivery (R.past input.old) (R.past input.new)).stand
@@ -201,14 +201,14 @@ impl Lines {
 
     /// The next line of requests that a handler answers, or why there is none.
     pub(crate) fn next_for<Q, H: ReadsFrom<Q>>(&mut self, requests: &mut Q, handler: &H) -> Next<'_>
-        // If no whole line is held, so that something is read, all answers are out.
+        // Unless a newline is held, something is read, so all answers must have been passed on.
         requires { line_parts self.old ≡ self.old ∷ [] → H.is_out handler.now }
         ensures* after { sem 𝓛 (Rests the_row self.entry (λ new.
             new ≡ left_of (answer_of result)
             (self.old ++ since (H.asked requests.old).handed (H.asked requests.new).handed))) }
         // Nothing is read after an end or a fault.
         ensures reads { IsReadOn (H.asked requests.old) (H.asked requests.new) }
-        // If a line is returned or is too long, no end and no fault was met.
+        // If a line is returned or is too long, reading met neither the end nor a fault.
         ensures quiet { OnLine result (MetNothing (H.asked requests.old) (H.asked requests.new)) }
         ensures answer { answer_of result
             ≡ next_answer (delivery (H.asked requests.old) (H.asked requests.new)).stand

@@ -1,6 +1,6 @@
-//! Earlier requests: they were carried out before a run, and leave the state that it starts in.
+//! Earlier requests: those carried out before a run. They leave the state in which the run starts.
 //!
-//! They are read like the requests of a run, and played through the same mapper, to a sink that does nothing.
+//! Earlier requests are read like those of a run, and played through the same mapper, but their pieces are discarded.
 
 ghost use Rattle.dm_stream.specs.Prelude.{false, refl, ◌∙◌, delivery, HasMoved, HasPlayed, HasStoppedAt, played_ending, requests_outcome, CanMap, IsLeft};
 ghost use Rattle.dm_stream.specs.laws.Earlier.{moved_more, moved_none, stopped_more};
@@ -19,17 +19,17 @@ use std::marker::PhantomData;
 /// Why earlier requests are refused.
 #[derive(Clone, Copy, Debug, PartialEq, Eq)]
 pub enum EarlierFault {
-    /// The request of this number is bad.
+    /// The request with this number is bad.
     BadRequest(u64, RequestWord),
-    /// Reading earlier requests failed.
+    /// Reading the earlier requests failed.
     Read,
 }
 
-/// Plays requests on the state of a mapper, without answers.
+/// Plays requests on the state of a mapper, without writing answers.
 #[derive(Drop)]
 struct EarlierPlayer<'s, T> {
     discard: Discard<'s>,
-    /// The sum of what was read ahead of requests; see `RequestMapper` for why it is kept.
+    /// A sum over what was read ahead of requests; `RequestMapper` explains why it is kept.
     prefetched: u64,
     taken: PhantomData<T>,
 }
@@ -37,7 +37,7 @@ struct EarlierPlayer<'s, T> {
 impl<'s, T: Taken> Handler for EarlierPlayer<'s, T> {
     type Source = Mapper<'s, T>;
 
-    /// The number of a request that names no device.
+    /// The number of the request whose device doesn't exist.
     type Fault = u64;
 
     ghost ready = { λ stack h mapper. CanMap stack mapper × (h.discard.stack.now ≡ stack) };
@@ -89,7 +89,7 @@ impl<'s, T: Taken> Handler for EarlierPlayer<'s, T> {
     }
 }
 
-/// Earlier requests have no answers, so none can be held back.
+/// Earlier requests have no answers, so no answer can be held back.
 impl<T: Taken, R: Input> ReadsFrom<R> for EarlierPlayer<'_, T> {
     ghost asked = { R.past };
 
@@ -104,29 +104,29 @@ impl<T: Taken, R: Input> HandlesFrom<R> for EarlierPlayer<'_, T> {
     fn before_read(&mut self) {}
 }
 
-/// Plays requests, line by line, without answers: the mapper's state changes as if they had been answered.
+/// Plays requests line by line without writing answers: the mapper's state changes as if they had been answered.
 ///
-/// The mapper is of this stack and has not failed, before and afterwards. No request is read after a bad line, the
-/// end or a fault.
+/// The mapper is of this stack and has not failed, before and afterwards. Nothing is read after a bad line, the end
+/// or a fault.
 ///
-/// Cost: less than that of `run` over the same requests, because nothing is joined or written. Allocates nothing.
+/// Cost: less than that of `run` for the same requests, because nothing is joined or written. Allocates nothing.
 ///
 /// # Errors
 ///
 /// | Fault | When |
 /// |---|---|
-/// | `BadRequest` | the line of this number is bad |
-/// | `Read` | reading requests failed, and no line delivered before is bad |
+/// | `BadRequest` | the line with this number is bad |
+/// | `Read` | reading requests failed, and no line delivered before that is bad |
 pub fn play_earlier<'s, T: Taken, R: Input>(
     stack: &'s Stack,
     mapper: &mut Mapper<'s, T>,
     requests: &mut R,
 ) -> Result<(), EarlierFault>
     requires { CanMap stack.now mapper.old }
-    // The mapper can map more requests. No request is read after the first bad line, the end or a fault.
+    // The mapper can map more requests. Nothing is read after the first bad line, the end or a fault.
     ensures left { IsLeft mapper.old mapper.new (R.past requests.old) (R.past requests.new)
         (played_ending result) }
-    // The delivered requests determine the state that is left, and how they end.
+    // The delivered requests determine the state that the mapper is left in, and how playing them ends.
     ensures played { HasPlayed (requests_outcome stack.now mapper.old.state
         (delivery (R.past requests.old) (R.past requests.new))) mapper.new.state result }
 {

@@ -1,7 +1,7 @@
-//! A run: from requests to their answers, line by line, in one pass and without allocating.
+//! A run: answers requests line by line, in one pass and without allocating.
 //!
-//! What is written depends on the bytes and ends that the requests delivered and on the mapper's state: see
-//! `specs/runs/Outcome.antt`. `handling` reads the lines, `request_mapper` answers them.
+//! The bytes and the end that the requests delivered and the mapper's state determine what is written: see
+//! `specs/runs/Outcome.antt`. `handling` reads the lines, and `request_mapper` answers them.
 
 ghost use Rattle.dm_stream.specs.Prelude.{List, OnOk, with_looked, BlockUnit, HasTold, ending_message, Outcome, run_outcome, with_status, AreFewest, fewest, CanMap, HasMappedAll, HasRun, IsLeft, IsMapped, ending_for, write_faults, OutputPast, delivery, written_since, HasWritten, Wrote};
 ghost use Rattle.dm_stream.specs.declared.requests.lines.TheConstants.{MOST_LINE_BYTES};
@@ -22,7 +22,7 @@ use dm_stack::Stack;
 use dm_table::{OutFault, Output};
 use std::marker::PhantomData;
 
-/// How a run ends at a request that was not mapped.
+/// The ending of a run that stopped at a request which was not mapped.
 fn ending_of(cause: NotMapped) -> Ending
     ensures { result ≡ ending_for cause }
 {
@@ -32,8 +32,8 @@ fn ending_of(cause: NotMapped) -> Ending
     }
 }
 
-/// Answers the requests up to the first bad one, the end or a fault, with one mapper and a join that exists only for
-/// this call. Doesn't flush the output.
+/// Answers the requests up to the first bad one, the end or a fault. The join exists only during this call. Doesn't
+/// flush the output.
 fn map_requests<'s, T: Taken, R: Exchange<W>, W: Output>(
     stack: &'s Stack,
     mapper: &mut Mapper<'s, T>,
@@ -59,8 +59,8 @@ fn map_requests<'s, T: Taken, R: Exchange<W>, W: Output>(
     }
 }
 
-/// Writes what follows the answers of a run that ended with `ending`: the status lines, if they are asked for and all
-/// requests were answered. Fails if a write failed, before or now.
+/// Writes what follows the answers: the status lines, if `status` is true and the run ended with `Done`. Fails if a
+/// write failed, before or during this call.
 fn write_rest<T: Taken, W: Output>(
     stack: &Stack,
     mapper: &mut Mapper<'_, T>,
@@ -71,7 +71,7 @@ fn write_rest<T: Taken, W: Output>(
     requires { mapper.old.stack ≡ stack.now }
     ensures same { mapper.new ≡ with_looked mapper.old mapper.new.looked }
     ensures no_fault { OnOk result (ending ≢ Ending.WriteFault) }
-    // For any earlier past of the output at which the answers may have begun.
+    // `start` is any earlier past of the output, and the answers are what was written since.
     ensures wrote { (start : OutputPast) (outcome : Outcome)
         → HasWritten start (W.past output.old) (write_faults ending)
         → IsMapped outcome (written_since start (W.past output.old)) mapper.old.state ending
@@ -84,22 +84,22 @@ fn write_rest<T: Taken, W: Output>(
     }
 }
 
-/// Answers requests, line by line: for each, the fewest pieces that cover its units, one line each with
-/// the request's number. It ends with the first bad line, the end or a fault.
+/// Answers requests line by line: covers the units of each with the fewest pieces, and writes a line with the
+/// request's number for each piece. Ends with the first bad line, the end or a fault.
 ///
 /// | Ending | When |
 /// |---|---|
-/// | `Done` | the requests ended cleanly, and all were answered; with `status`, the line of each snapshot's usage follows |
-/// | `BadRequest` | the line of this number is bad; those before it were answered |
-/// | `ReadFault` | reading requests failed; those before the fault were answered |
-/// | `WriteFault` | writing or flushing the output failed; a prefix of what there was to write was written |
+/// | `Done` | the requests ended cleanly, all were answered; with `status`, a line with each snapshot's usage follows |
+/// | `BadRequest` | the line with this number is bad; the requests before it were answered |
+/// | `ReadFault` | reading requests failed; those delivered before were answered |
+/// | `WriteFault` | writing or flushing the output failed; a prefix of the output was written |
 ///
-/// The mapper and the texts are of this stack, and the mapper has not failed; requests change its state. The output is
-/// flushed once at the end, unless a write failed; then a message of one line is written, except at `Done`. If there is
-/// nothing to write, the output is not written to. The output never holds an answer back while a request is waited
-/// for: each read requires that the output has passed on all that it took, or has failed.
+/// The mapper and the texts are of this stack, and the mapper has not failed; requests change its state. The output
+/// is flushed once at the end, unless a write failed; then a message of one line is written, except at `Done`. The
+/// output is not written to if there is nothing to write. No answer is held back while a read waits for requests:
+/// each read requires that the output has passed on all that was written to it, or has failed.
 ///
-/// Cost: time linear in the bytes read and written, plus what the mapper takes for each request. Allocates nothing.
+/// Cost: time linear in the bytes read and written, plus the mapper's time for each request. Allocates nothing.
 pub fn run<'s, T: Taken, R: Exchange<W>, W: Output, E: Output>(
     stack: &'s Stack,
     mapper: &mut Mapper<'s, T>,
@@ -111,20 +111,20 @@ pub fn run<'s, T: Taken, R: Exchange<W>, W: Output, E: Output>(
 ) -> Ending
     requires mapper { CanMap stack.now mapper.old }
     requires texts { texts.now ≡ stack.now }
-    // The mapper can map more requests unless the output failed. No request is read after the first bad line, the end
-    // or a fault.
+    // The mapper can map more requests unless the output failed. Nothing is read after the first bad line, the end or
+    // a fault.
     ensures left { IsLeft mapper.old mapper.new (R.past requests.old) (R.past requests.new) result }
-    // The delivered requests determine what is written and, unless the output failed, how the run ends and the state
-    // that is left. The output was flushed once. If it failed, it took a prefix: all of the output if the flush
-    // failed, or less if a write did.
+    // The delivered requests determine what is written and, unless the output failed, how the run ends and in which
+    // state it leaves the mapper. The output was flushed once. If the flush failed, all of the output was written; if
+    // a write failed, only a proper prefix.
     ensures ran { HasRun (W.past output.old) (W.past output.new)
         (run_outcome stack.now status mapper.old.state (delivery (R.past requests.old) (R.past requests.new)))
         mapper.new.state result }
-    // The message of the ending was written, or a prefix of it if its stream failed.
+    // The message for the ending was written or, if its stream failed, a prefix of the message.
     ensures told { HasTold (ending_message result) (E.past messages.old) (E.past messages.new) }
     // The pieces of an answer are the fewest that can cover its units.
     ensures fewest { (units : List BlockUnit) → AreFewest units (fewest units) }
-    // The values of the limits.
+    // The values of the two limits that `specs/requests` uses.
     ensures limits { (MOST_LINE_BYTES ≡ 4096) × (MOST_REQUESTS ≡ 1000000000000) }
 {
     let ending = map_requests(stack, mapper, texts, requests, output);

@@ -1,7 +1,7 @@
-//! The messages of a run: one line each, and at most one a run.
+//! The messages of a run: at most one in each run, of one line.
 //!
-//! Their words are fixed in `specs/runs/Messages.antt`, because users match on them. A new ending is an arm here and
-//! there.
+//! `specs/runs/Messages.antt` fixes the words, because users match on them. A new ending needs an arm both here and
+//! in that file.
 
 ghost use Rattle.dm_stream.specs.Prelude.{length, HasTold, earlier_message, ending_message, refused_request, request_word};
 ghost use Rattle.std.specs.Prelude.{◌≡◌, ◌≤◌};
@@ -14,14 +14,14 @@ use dm_table::{Output, append, append_number, write_all};
 /// The text of one message of a run.
 pub type Message = ArrayVec<u8, 64>;
 
-/// Writes a message, as far as its stream accepts it. Doesn't flush the stream.
+/// Writes a message, as far as its stream takes it. Doesn't flush the stream.
 pub fn tell<E: Output>(messages: &mut E, message: &[u8])
     ensures { HasTold message.now (E.past messages.old) (E.past messages.new) }
 {
     let _ = write_all(messages, message);
 }
 
-/// The message of an ending: a line, or empty if all requests were answered. Allocates nothing.
+/// The message for an ending: a line, or empty for `Done`. Allocates nothing.
 pub fn message_of(ending: Ending) -> Message
     ensures { result.items ≡ ending_message ending }
 {
@@ -35,7 +35,7 @@ pub fn message_of(ending: Ending) -> Message
     text
 }
 
-/// The message for a request that is refused: a line with its number, and a word of at most 16 bytes that says why.
+/// The message for a refused request: a line with the request's number and a word of at most 16 bytes for the reason.
 /// Allocates nothing.
 pub fn refused_request(number: u64, word: &[u8]) -> Message
     requires { length word.now ≤ 16 }
@@ -50,7 +50,7 @@ pub fn refused_request(number: u64, word: &[u8]) -> Message
     text
 }
 
-/// The message for earlier requests that are refused: a line. Allocates nothing.
+/// The message for earlier requests that are refused, as one line. Allocates nothing.
 pub fn earlier_message(fault: EarlierFault) -> Message
     ensures { result.items ≡ earlier_message fault }
 {
@@ -68,7 +68,7 @@ pub fn earlier_message(fault: EarlierFault) -> Message
     text
 }
 
-/// How messages write what is wrong with a request.
+/// The word in messages for what is wrong with a request.
 fn word_text(word: RequestWord) -> &'static [u8]
     ensures word { result.now ≡ request_word word }
     ensures short { length result.now ≤ 7 }

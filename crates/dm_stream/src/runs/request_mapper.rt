@@ -1,7 +1,7 @@
 //! Maps requests to an output: the handler of a run.
 //!
-//! It passes the units of a request from a mapper to a join, which writes them. `specs/runs/Outcome.antt` defines
-//! what is written, and `specs/runs/Mapped.antt` what one request adds to it.
+//! A mapper passes the units of a request to a join, which writes them. `specs/runs/Outcome.antt` defines what is
+//! written, and `specs/runs/Mapped.antt` what one request adds to that.
 
 ghost use Rattle.dm_stream.specs.Prelude.{None, false, length, OnOk, HasWrittenTo, IsSameReference, Wrote, written_to_none, written_to_more, refl, ◌∙◌, IsReady, HasAnswered, HasStopped, failed_writes, request_answer, step_of, numbered};
 ghost use Rattle.dm_stream.specs.laws.Mapped.{answered_none, answered_more, stopped_more};
@@ -20,10 +20,10 @@ use dm_stack::{DeviceId, Stack};
 use dm_table::{InFault, OutFault, Output, Request};
 use std::marker::PhantomData;
 
-/// Joins the units of a request to a device of the stack, and writes them. The join holds nothing before.
+/// Joins the units of a request to a device of the stack, and writes them. The join holds no piece before the call.
 ///
-/// It is inlined, unless what is inlined into it gets very large: RESULTS.md has the gain as *what writes an answer is
-/// inlined*. Measure small requests after a change of what it calls.
+/// Inlined, unless the functions inlined into this one get very large: RESULTS.md has the gain as *what writes an
+/// answer is inlined*. Measure small requests if you change a function that this one calls.
 #[inline(always)]
 fn write_joined<T: Taken, W: Output>(
     mapper: &mut Mapper<'_, T>,
@@ -55,16 +55,16 @@ fn write_joined<T: Taken, W: Output>(
     }
 }
 
-/// Whether it pays to read ahead: if a device has many lines to search, or if a chunk may be one of many that a
-/// snapshot's store holds. Then an answer mostly waits for memory, and waits that begin together overlap.
+/// Whether it pays to read ahead: a device has many lines to search, or a snapshot's store may hold many chunks. An
+/// answer then mostly waits for memory, and waits that begin together overlap.
 pub(crate) fn gains_by_reading_ahead(stack: &Stack) -> bool {
     !stack.snapshots().is_empty() || stack.has_buckets()
 }
 
-/// Reads what the answers to these requests read first, so that it is in the cache by then. Returns what it read,
-/// because a compiler leaves out a read whose result is unused.
+/// Reads what the answers to these requests will read first, so that it is already in the cache. Returns a value that
+/// depends on all reads, because a compiler leaves out a read whose result is unused.
 ///
-/// Chunks are collected first and then looked up in a row: with little code in between, more of their waits overlap.
+/// First collects the chunks, then looks them all up: with little code between look-ups, more of their waits overlap.
 #[inline(always)]
 pub(crate) fn read_ahead<T: Taken>(
     stack: &Stack,
@@ -87,14 +87,14 @@ pub(crate) fn read_ahead<T: Taken>(
     read
 }
 
-/// Writes the pieces that a mapper makes of requests, through a join.
+/// Writes the pieces to which a mapper maps requests, through a join.
 #[derive(Drop)]
 pub(crate) struct RequestMapper<'m, 's, T, W> {
     pub(crate) join: Join<'m, W>,
-    /// The sum of what was read ahead of requests. It is never used, but without it the compiler would leave the
-    /// reads out.
+    /// A sum over what was read ahead of requests. Nothing uses it, but without it the compiler would leave out the
+    /// reads.
     pub(crate) prefetched: u64,
-    /// The types of the mapper that the answers come from: its stack's lifetime, and how it stores taken chunks.
+    /// The types of the mapper that answers requests: its stack's lifetime, and how it stores taken chunks.
     pub(crate) mapper: PhantomData<(&'s Stack, T)>,
 }
 

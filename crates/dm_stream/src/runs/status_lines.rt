@@ -1,7 +1,7 @@
-//! The status lines of snapshots: how much of each exception store is used.
+//! The status lines of snapshots, which report how much of each exception store is used.
 //!
-//! They are written once a run, after its last answer, so each is put together in an array of its own and written by
-//! plain calls. `specs/runs/StatusLines.antt` defines their text.
+//! Status lines are written once in a run, after the last answer, so each is made in an array of its own and written by
+//! plain calls. `specs/runs/StatusLines.antt` defines the text.
 
 ghost use Rattle.dm_stream.specs.Prelude.{[], length, Wrote, code, device_len, name_at, with_looked, after_name, status_text, usage_text};
 ghost use Rattle.std.specs.Prelude.{◌≡◌, ◌++◌, ◌<◌, ◌≤◌, ◌∷◌};
@@ -11,13 +11,13 @@ use dm_map::{Mapper, Taken, Usage};
 use dm_stack::{DeviceId, Stack};
 use dm_table::{OutFault, Output, append, append_number, write_all};
 
-/// The most bytes of a status line after the name: four numbers of 20 digits, and the text around them.
+/// The longest status line after the device's name: four numbers of 20 digits, and the text around them.
 const REST_BYTES: usize = 128;
 
-/// Writes the status line of each snapshot of a mapper's stack, in the order of the devices.
+/// Writes a status line for each snapshot of a mapper's stack, in the order of the devices.
 ///
-/// After a fault, only a prefix of the lines is written, and nothing is tried again. Cost: one look-up and two writes
-/// for each snapshot. Allocates nothing.
+/// If a write fails, only a prefix of the lines is written, and the write isn't tried again. Cost: one look-up and two
+/// writes for each snapshot. Allocates nothing.
 pub(crate) fn write_status<T: Taken, W: Output>(
     stack: &Stack,
     mapper: &mut Mapper<'_, T>,
@@ -35,7 +35,7 @@ pub(crate) fn write_status<T: Taken, W: Output>(
     Ok(())
 }
 
-/// Writes the status line of a device of the stack, with this usage.
+/// Writes the status line of a device of the stack that has this usage.
 fn write_line<W: Output>(
     stack: &Stack,
     device: DeviceId,
@@ -50,7 +50,7 @@ fn write_line<W: Output>(
     write_all(output, after_name(stack.len(device), usage).as_slice())
 }
 
-/// The status line of a snapshot of this length, after its name.
+/// The part of a snapshot's status line after its name. `len` is the snapshot's length in sectors.
 fn after_name(len: u64, usage: Usage) -> ArrayVec<u8, REST_BYTES>
     ensures { result.items ≡ after_name len usage }
 {
@@ -62,7 +62,7 @@ fn after_name(len: u64, usage: Usage) -> ArrayVec<u8, REST_BYTES>
     text
 }
 
-/// Appends how much of an exception store is used, in sectors, or that its snapshot is invalid, and a newline.
+/// Appends how many sectors of an exception store are used, or that its snapshot is invalid, and a newline.
 fn put_usage(text: &mut ArrayVec<u8, REST_BYTES>, usage: Usage)
     requires { length text.old.items ≤ 40 }
     ensures { text.new.items ≡ text.old.items ++ usage_text usage ++ code "\n" ∷ [] }

@@ -1,10 +1,10 @@
 //! Halts in replays of stacks without a clash, and the lines of the answers.
 //!
-//! All rows are in one text, so that a file with many more can be read in the same way.
-//! `tests/outside/program/halts.py` writes that file, and works out these answers by the plain rules. Each row but
-//! the first follows a `#`, and its parts are separated by `|`: a title, devices as concise text, disks, requests,
-//! and the lines of their answers. A request follows the number of units after which it is halted, and then isn't
-//! answered, or follows a hyphen.
+//! All cases are in one text, so that a file with many more can be read in the same way:
+//! `tests/outside/program/halts.py` writes that file, and works out the answers here by the plain rules. A `#`
+//! separates cases, and a `|` the parts of each: a title, devices as concise text, disks, requests, and the lines of
+//! the answers. A request is preceded by the number of units after which it is halted, and then isn't answered, or by a
+//! hyphen.
 
 pub(crate) static STOPS: &str = "\
 The first chunk of a store is torn, and then written again.
