@@ -30,7 +30,7 @@ run_at runs index = slice_index_or runs index no_run
 abbrev pub end_of : Run → ℕ
 end_of run = run.first + run.len
 
--- a run isn't empty, and from its first number on, the list of taken chunks holds the run's chunks in a row
+-- the run isn't empty, and its chunks are consecutive in the list of taken chunks, from the run's first number on
 pub record IsRun (chunks : List ℕ) (run : Run) : Type 0 where
   pub some : 0 < run.len
   pub within : run.number + run.len ≤ length chunks
@@ -50,6 +50,6 @@ pub record AreBegunBy (runs : List Run) (chunk count : ℕ) : Type 0 where
   pub from : 0 < count → (run_at runs (count - 1)).first ≤ chunk
   pub next : count < length runs → chunk < (run_at runs count).first
 
--- a chunk with this number continues a run: both the chunk and the number are the next after the run's last
+-- a chunk with this number continues the run, because the chunk and the number are each one more than the run's last
 abbrev pub GoesOn : Run → (chunk number : ℕ) → Type 0
 GoesOn run chunk number = (end_of run ≡ chunk) × (run.number + run.len ≡ number)
