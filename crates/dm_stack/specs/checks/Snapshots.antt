@@ -27,7 +27,7 @@ pub record IsSnapshot (stack : Description) (device : ℕ) : Type 0 where
   pub snapshot : ResolvedSnapshot
   pub line : found_at stack device 0 ≡ Some (record { start = 0; len = device_len stack device; target = found.Snapshot snapshot })
 
--- each of these devices is a snapshot, and every device whose sector 0 is on a snapshot line is among them
+-- each of these devices is a snapshot, and the list contains every device whose sector 0 is on a snapshot line
 pub record AreSnapshots (stack : Description) (devices : List ℕ) : Type 0 where
   pub each : All (IsSnapshot stack) devices
   pub among : (device : ℕ) (line : ResolvedLine) (snapshot : ResolvedSnapshot) → found_at stack device 0 ≡ Some line → line.target ≡ found.Snapshot snapshot → Contains devices device
