@@ -29,7 +29,7 @@ use thiserror::Error;
 #[cfg(test)]
 mod tests;
 
-/// Why mapping a request stopped before its end.
+/// Why mapping a request stopped before the request's end.
 #[derive(Clone, Copy, Debug, PartialEq, Eq, Drop, Error)]
 #[error_bound(F: fmt::Display)]
 pub enum MapFault<F> {
@@ -75,8 +75,8 @@ impl<'s, T: Taken> Model for Mapper<'s, T> {
 }
 
 impl<'s, T: Taken> Mapper<'s, T> {
-    /// Makes a mapper for the looker's stack, in the state before any request. This costs at most one line search
-    /// for each snapshot.
+    /// Makes a mapper for the looker's stack, in the state before any request. Cost: at most one line search for
+    /// each snapshot.
     ///
     /// # Errors
     ///
@@ -203,7 +203,8 @@ impl<'s, T: Taken> Mapper<'s, T> {
         self.walker.invalidate(device);
     }
 
-    /// Returns the chunks that a snapshot's store holds, and whether it is valid. No memory is allocated.
+    /// Returns the chunks that a snapshot's store holds, and whether the snapshot is valid. No memory is
+    /// allocated.
     pub fn taken(&self, device: DeviceId) -> &T
         requires { device < length self.now.stack.devices }
         ensures chunks { T.chunks result.now ≡ (taken_at self.now.state device).chunks }
@@ -302,7 +303,7 @@ impl<'s, T: Taken> Mapper<'s, T> {
 
     /// Returns how many line searches were made by the last request that didn't fail as `Stopped`, or 0 before
     /// the first request. A line search looks up, in the table of one device, the line that holds a sector. The
-    /// looker's count stays at `u64::MAX` once it gets there. No memory is allocated.
+    /// looker's count stops growing at `u64::MAX`. No memory is allocated.
     pub fn searches(&self) -> u64
         ensures { result ≡ self.now.last.searches }
     {

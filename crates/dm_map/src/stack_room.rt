@@ -10,7 +10,7 @@ use std::io::Read;
 /// the arguments and the environment, which are on the stack, too, use up to 128 KiB if the limit is low.
 const LEAST_STACK: u64 = 524_288;
 
-/// The file with the limits of this process, one to a line: see `proc_pid_limits(5)`.
+/// The file that lists the limits of this process, one in each line: see `proc_pid_limits(5)`.
 const LIMITS: &str = "/proc/self/limits";
 
 /// Whether the limit on stack memory is at least 512 KiB, which is enough for devices at the limit of depth, or

@@ -15,7 +15,7 @@ pub record Description : Type 0 where
 abbrev pub described : List DeviceSpec → List Disk → Description
 described devices disks = record { devices = devices; disks = disks }
 
--- two texts have the same bytes
+-- two names have equal bytes
 abbrev pub is_same : List ℕ → List ℕ → Bool
 is_same = pointwise nat_eq
 
@@ -39,18 +39,18 @@ is_same_lower (lowers.Device one) (lowers.Disk other) = false
 is_same_lower (lowers.Disk one) (lowers.Device other) = false
 is_same_lower (lowers.Disk one) (lowers.Disk other) = one == other
 
--- the sector after the last one of a device with these lines: the end of its last line
+-- the end of the last line of a table, which is the sector after the device's last one
 abbrev pub end_of : List Line → ℕ
 end_of [] = 0
 end_of (line ∷ []) = line.start + line.len
 end_of (line ∷ next ∷ lines) = end_of (next ∷ lines)
 
--- the lines of a device, or none if there is no device
+-- the lines of a device, or an empty list for None
 abbrev pub lines_or_none : Option DeviceSpec → List Line
 lines_or_none (Some device) = device.lines
 lines_or_none None = []
 
--- the name of the device with this id, or an empty one if the stack has no such device
+-- the name of the device with this id, or an empty name if the stack doesn't have the device
 abbrev pub name_at : Description → ℕ → List ℕ
 name_at stack device = option_map_or (λ it. it.name) (slice_get stack.devices device) []
 

@@ -9,6 +9,6 @@ pub record Looking : Type 0 where
   pub searches : ℕ
   pub comparisons : ℕ
 
--- a count after one more search, unless it is 2^64 - 1 already and so stays the same
+-- a count plus one, or the count itself if it is 2^64 - 1 already
 abbrev pub next_count : ℕ → ℕ
 next_count count = if nat_lt (suc count) (2 ^ 64) then suc count else count

@@ -84,7 +84,7 @@ impl<'s> Looker<'s> {
         line
     }
 
-    /// The number of searches so far; the count stays at `u64::MAX` once it gets there.
+    /// The number of searches so far; the count stops growing at `u64::MAX`.
     pub fn searches(&self) -> u64
         ensures { result ≡ self.now.searches }
     {

@@ -64,15 +64,14 @@ impl Stack {
     /// 6. `Unknown`: a line that names a device or a disk that isn't in the lists.
     /// 7. `Cycle`: the first device that names itself, directly or through other devices.
     /// 8. `Deep`: a device whose depth is above 32. A device that names no device has depth 1; any other is one
-    ///    deeper than the deepest that it names.
+    ///    deeper than the deepest device that it names.
     /// 9. `Stripe`: a striped line with fewer than 1 or more than 128 columns, a chunk below 1 or above 2^32 - 1
     ///    sectors, or a length that is not a multiple of the number of columns times the chunk.
     /// 10. `Range`: a line that passes the end of a device or disk that it names.
-    /// 11. `Snapshot`: a snapshot or an origin that is not the only line of its table, or is not as
-    ///     long as the origin that it names, or a snapshot whose chunk is no power of two from 1 to
-    ///     1,024.
-    /// 12. `Store`: a snapshot whose store is neither a disk nor a writable device of linear and
-    ///     striped lines that names nothing but disks and such devices, down to disks.
+    /// 11. `Snapshot`: a snapshot or an origin that is not the only line of its table, or is not as long as the
+    ///     origin that it names, or a snapshot whose chunk size isn't a power of two from 1 to 1,024 sectors.
+    /// 12. `Store`: a snapshot whose store is, or is above, a device that is read-only or has a line that is
+    ///     neither linear nor striped.
     /// 13. `Limit`: the first snapshot whose store, with all earlier stores, has room for more than 4,194,304
     ///     chunks.
     ///
@@ -237,8 +236,8 @@ impl Stack {
         self.disks.as_slice().len()
     }
 
-    /// The greatest depth of any device, or 0 if there are none. A device is one deeper than the deepest of what
-    /// it names; a disk's depth is 0.
+    /// The greatest depth of any device, or 0 if there are none. A device is one deeper than the deepest device
+    /// or disk that it names; a disk's depth is 0.
     pub fn depth(&self) -> u32
         ensures depth { result ≡ stack_depth self.now }
         // Every value of type `Stack` is sound.

@@ -24,14 +24,14 @@ pub record MeetsError (stack : Description) (state : State) (from : Node) : Type
   pub way : Touches stack state from (node (Device device) sector)
   pub ends : EndsHere stack state device sector
 
--- reads fail and snapshots are lost for the causes below, and only for them
+-- reads fail and snapshots are lost exactly for the causes that these fields state
 pub record HaveCauses (stack : Description) : Type 0 where
   -- a read within its device fails exactly if its path reaches an `error` line or a lost snapshot
   pub reads : (state : State) (device sector : ℕ) → IsFitting stack state → sector < device_len stack device → (read stack state (Device device) sector ≡ Fails) ↔ MeetsError stack state (node (Device device) sector)
   -- a write makes a valid snapshot lost exactly if taking one of the chunks due for the write does
   pub writes : (state : State) (lower : Lower) (sector device : ℕ) → IsFitting stack state → (taken_at state device).valid ≡ true
       → ((taken_at (write stack state lower sector).state device).valid ≡ false) ↔ AreLosing stack state device (due stack state lower sector)
-  -- the first sectors of a request make a valid snapshot lost exactly if the write of one of them does
+  -- the first sectors of a request make a valid snapshot lost exactly if the write of one of these sectors does
   pub requests : (state : State) (op : Op) (asked start len sectors device : ℕ) → IsFitting stack state → (taken_at state device).valid ≡ true
       → ((taken_at (state_past stack op asked start len sectors state) device).valid ≡ false) ↔ IsLostIn stack state device op asked start len sectors
   -- the state after a request is the state after all of its sectors

@@ -1,4 +1,4 @@
--- A request that is halted after some of its units: the units done by then, and the state that it leaves.
+-- A request that is halted after some of its units: the units done before the halt, and the state after it.
 use Rattle.dm_map.specs.Base.{ℕ, List, nat_lt, take, Op, Device, Description, device_len, MOST_DEPTH}
 use Rattle.dm_map.specs.own.Contents.{sector_past}
 use Rattle.dm_map.specs.walk.Mapping.{request_step, sector_step}

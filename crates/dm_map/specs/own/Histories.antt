@@ -41,7 +41,7 @@ pub record Moment (V : Type 0) : Type 0 where
   pub state : State
   pub rows : Rows V
 
--- each sector of a top device reads as its row says, or as an error
+-- each sector of a top device reads as the value in its row, or as an error
 abbrev pub IsOwnAt : {V : Type 0} → (zeros : V) → Description → Moment V → Type 0
 IsOwnAt zeros stack moment = AreOwn zeros stack moment.state moment.values moment.rows
 

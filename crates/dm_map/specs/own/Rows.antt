@@ -28,7 +28,7 @@ rows_in zeros stack state values device sector = content zeros stack state value
 abbrev pub first_rows : {V : Type 0} → (zeros : V) → Description → Values V → Rows V
 first_rows zeros stack = rows_in zeros stack (start_state stack)
 
--- each sector of a top device reads as its row says, or as an error
+-- each sector of a top device reads as the value in its row, or as an error
 pub record AreOwn {V : Type 0} (zeros : V) (stack : Description) (state : State) (values : Values V) (rows : Rows V) : Type 0 where
   pub fits : IsFitting stack state
   pub tops : (top sector : ℕ) → IsTop stack top → Stays (rows top sector) (content zeros stack state values (Device top) sector)

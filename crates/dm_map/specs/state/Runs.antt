@@ -22,11 +22,11 @@ run_count chunks = runs_after None chunks
 abbrev pub no_run : Run
 no_run = record { first = 0; number = 0; len = 0 }
 
--- the run at this index, or an empty one past the end of the list
+-- the run at this index, or an empty run past the end of the list
 abbrev pub run_at : List Run → ℕ → Run
 run_at runs index = slice_index_or runs index no_run
 
--- the chunk right after the last one of a run
+-- the chunk right after the last chunk of a run
 abbrev pub end_of : Run → ℕ
 end_of run = run.first + run.len
 
@@ -36,7 +36,7 @@ pub record IsRun (chunks : List ℕ) (run : Run) : Type 0 where
   pub within : run.number + run.len ≤ length chunks
   pub its_own : (offset : ℕ) → offset < run.len → slice_index_or chunks (run.number + offset) 0 ≡ run.first + offset
 
--- the runs cover the list of taken chunks: each is a run of the list, every taken chunk is in one of them, and they are in rising order without overlap
+-- the runs cover the list of taken chunks: each is a run of the list, every taken chunk is in one of the runs, and the runs are in rising order without overlap
 abbrev pub AreRuns : List Run → (chunks : List ℕ) → Type 0
 AreRuns runs chunks = record {
   each : (index : ℕ) → index < length runs → IsRun chunks (run_at runs index);

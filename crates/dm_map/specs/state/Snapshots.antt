@@ -3,7 +3,7 @@ use Rattle.dm_map.specs.Base.{ℕ, suc, Bool, nat_le, List, [], Option, Some, No
 use Rattle.dm_map.specs.state.State.{Taken}
 use Rattle.std.specs.Prelude.{◌+◌, ◌*◌, ◌/◌, ◌%◌, ◌==◌, ◌∷◌, if◌then◌else◌}
 
--- the index of a chunk in the list of taken chunks, in the order in which they were taken
+-- the index of a chunk in the list of taken chunks, which is in the order of taking; None if the chunk isn't taken
 abbrev pub number_in : ℕ → List ℕ → Option ℕ
 number_in chunk [] = None
 number_in chunk (first ∷ rest) = if first == chunk then Some 0 else option_map suc (number_in chunk rest)

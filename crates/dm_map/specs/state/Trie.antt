@@ -5,7 +5,7 @@ use Rattle.dm_map.specs.declared.state.trie_taken.slots.Slots.{Slots}
 use Rattle.dm_map.specs.declared.state.trie_taken.slots.TheConstants.{SPREAD}
 use Rattle.std.specs.Prelude.{◌≡◌, ◌<◌, ◌≤◌, ◌+◌, ◌*◌, ◌/◌, ◌%◌, ◌^◌, ◌∷◌, if◌then◌else◌}
 
--- the node at this index, or an empty one past the end of the list
+-- the node at this index, or an empty node past the end of the list
 abbrev pub node_at : List Node → (at : ℕ) → Node
 node_at nodes at = slice_index_or nodes at Empty
 
@@ -36,7 +36,7 @@ abbrev pub is_fork : Node → Bool
 is_fork (Fork bit pair) = true
 is_fork _ = false
 
--- two chunks have equal values in each of these bits
+-- two chunks agree in each bit of the list
 abbrev pub Agree : (bits : List ℕ) → (chunk other : ℕ) → Type 0
 Agree bits chunk other = (bit : ℕ) → list_any (nat_eq bit) bits ≡ true → bit_at chunk bit ≡ bit_at other bit
 
@@ -69,7 +69,7 @@ Fits marks chunks count at Empty = Unit {0}
 Fits marks chunks count at (Number number) = IsNumber marks chunks at number
 Fits marks chunks count at (Fork bit pair) = IsFork marks count at bit pair
 
--- there are marks that every node fits, so no way tests a bit twice
+-- some marks fit every node, so no way tests a bit twice
 pub record HasMarks (chunks : List ℕ) (nodes : List Node) (slots : Slots) : Type 0 where
   pub marks : Marks
   pub start : (at : ℕ) → at ≤ slots.mask → marks.tested at ≡ []

@@ -19,7 +19,7 @@ pub record AreInChunk (stack : Description) (device : ℕ) (snapshot : ResolvedS
   pub whole : AreInSnapshot stack device snapshot sector len
   pub part : sector % snapshot.chunk + len ≤ snapshot.chunk
 
--- len sectors of a chunk are read from len consecutive sectors of a device or a disk, which has them all
+-- len sectors of a chunk are read from len consecutive sectors of a device or a disk, which has all of them
 pub record AreReadAt (stack : Description) (state : State) (device : ℕ) (snapshot : ResolvedSnapshot) (sector len : ℕ) (source : ReadAt) : Type 0 where
   pub lies : (i : ℕ) → i < len → read_over (taken_at state device) snapshot (sector + i) ≡ Lies source.to (source.sector + i)
   pub inside : source.sector + len ≤ lower_len stack source.to

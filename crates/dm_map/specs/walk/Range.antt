@@ -1,4 +1,4 @@
--- The steps of ranges and of lines, and what a walk down the stack needs and promises for them.
+-- The steps of ranges and of lines, and what a walk down the stack requires and promises.
 use Rattle.dm_map.specs.Base.{ℕ, Bool, false, [], Result, OnOk, OnErr, Op, Lower, ResolvedLine, ResolvedOrigin, ResolvedSnapshot, ResolvedTarget, fault_of, Description, is_ro_at, lower_len, Below, below_target, IsLine, IsLineOf, AreInside, IsBeneath, snapshots_over, MOST_LENGTH, Read, Write}
 use Rattle.dm_stack.specs.declared.lines.leg.Leg.{Leg}
 use Rattle.dm_map.specs.state.Counts.{AreAdded}
@@ -34,7 +34,7 @@ target_step stack Write levels device target state distance = write_target stack
 abbrev pub line_step : Description → Op → ℕ → (device : ℕ) → ResolvedTarget → State → (distance len : ℕ) → Step
 line_step stack op levels device target state distance len = steps (target_step stack op levels device target) state distance len
 
--- the step of a sector, given what lies below it
+-- the step of a sector, given what lies below the sector
 abbrev pub below_step : Description → Op → ℕ → Below → State → Step
 below_step stack op levels b state = by_below b (keep (zero_unit op ∷ []) state) (keep (Fails ∷ []) state) (λ to sector. sector_step stack op levels to state sector)
 

@@ -36,7 +36,7 @@ abbrev pub is_error : BlockUnit → Bool
 is_error Fails = true
 is_error unit = false
 
--- at least one of these units is an error
+-- at least one unit of the list is an error
 abbrev pub any_error : List BlockUnit → Bool
 any_error [] = false
 any_error (unit ∷ units) = is_error unit || any_error units
@@ -70,7 +70,7 @@ is_settled taken chunk = not taken.valid || is_some (number_in chunk taken.chunk
 abbrev pub can_take : Description → State → ResolvedSnapshot → (device sector len : ℕ) → Bool
 can_take stack state snapshot device sector len = has_place stack snapshot (length (taken_at state device).chunks) && reads_all stack state snapshot.origin sector len
 
--- take a chunk: copy it to the store and list it, or lose the snapshot if there is no room or the origin has an error; nothing happens if the chunk is settled
+-- taking a chunk copies it to the store and lists it, or makes the snapshot lost if there is no room or a read of the origin fails; if the chunk is settled, nothing happens
 abbrev pub take_chunk : Description → ResolvedSnapshot → (device chunk : ℕ) → State → Step
 take_chunk stack snapshot device chunk state =
     let taken = taken_at state device in

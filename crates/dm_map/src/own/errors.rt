@@ -13,7 +13,7 @@ use dm_stack::Stack;
 pub fn errors_have_causes(stack: &Stack)
     ensures { HaveCauses stack.now }
 {
-    // The contract of `depth` says that the stack is sound.
+    // The contract of `depth` states that the stack is sound.
     stack.depth();
 }
 
@@ -25,6 +25,6 @@ pub fn nothing_is_lost<V>(stack: &Stack)
     ensures lost { AreNeverLost stack.now }
     ensures exact { AreAlwaysExact V stack.now }
 {
-    // The contract of `depth` says that the stack is sound.
+    // The contract of `depth` states that the stack is sound.
     stack.depth();
 }

@@ -1,4 +1,4 @@
-//! A law that each top device is like a disk of its own, whatever is requested of any of them.
+//! A law that each top device is like a disk of its own, whichever devices requests access.
 
 ghost use Rattle.dm_map.specs.Prelude.{AreAlone};
 

@@ -1,4 +1,4 @@
-//! Pieces: one operation on consecutive sectors.
+//! Pieces, each of which is one operation on consecutive sectors.
 //!
 //! Contracts see a piece only as a list of units, one for each sector. To add a kind of piece, add a variant
 //! here, arms in `len` and `with_len`, and a clause in each function of `specs/pieces/Units.antt`.

@@ -51,7 +51,7 @@ impl RunTaken {
     /// The number of a taken chunk, counted from 0 in the order of taking, as `find` returns it.
     ///
     /// Adds to `comparisons` how often the chunk was compared with the first chunk of a run: at most once for
-    /// each binary digit of the number of runs. The sum stays at `u64::MAX` once it gets there.
+    /// each binary digit of the number of runs. The sum stops growing at `u64::MAX`.
     pub fn find_counted(&self, chunk: u64, comparisons: &mut u64) -> Option<usize>
         ensures found { result ≡ number_in chunk (⟦<RunTaken as Taken>⟧.chunks self.now) }
         ensures more { comparisons.old ≤ comparisons.new }

@@ -10,12 +10,12 @@ ghost use Rattle.std.specs.Prelude.{◌≡◌, ◌<◌, ◌≤◌, ◌==◌, ◌
 
 use std::alloc::{AllocError, Global};
 
-/// Keeps the chunks that a snapshot took, and whether it is valid.
+/// Keeps the chunks that a snapshot took, and whether the snapshot is valid.
 pub trait Taken: Drop + Sized {
     /// The chunks, in the order in which they were taken.
     ghost chunks: { Self → List ℕ };
 
-    /// The most chunks that can be kept.
+    /// The greatest number of chunks that can be kept.
     ghost places: { Self → ℕ };
 
     /// Whether the snapshot is valid.

@@ -31,7 +31,7 @@ const MOST_PLACES: usize = 1 << 23;
 /// at most four links. This holds for any chunks, because those that share a slot form a tree of forks.
 ///
 /// `with_places` or `for_chunks` reserves all memory: 16 bytes for each place, and the table of slots. The table,
-/// 4 to 8 bytes for each place, or for each chunk of the snapshot if there are fewer, is written at once. The 8
+/// 4 to 8 bytes for each place, or for each chunk of the snapshot if these are fewer, is written at once. The 8
 /// bytes for a chunk, and the 8 for a fork's links, are written only when the chunk is taken. More than 2²³
 /// places are refused as out of memory.
 #[derive(Drop)]
@@ -70,7 +70,7 @@ impl TrieTaken {
     /// The number of a taken chunk, counted from 0 in the order of taking, as `find` returns it.
     ///
     /// Adds to `comparisons` how often the chunk was compared with a taken one, at most once, and to `bits` how
-    /// many of its bits were tested, at most 64. Each sum stays at `u64::MAX` once it gets there.
+    /// many of its bits were tested, at most 64. Each sum stops growing at `u64::MAX`.
     pub fn find_counted(&self, chunk: u64, comparisons: &mut u64, bits: &mut u64) -> Option<usize>
         ensures found { result ≡ number_in chunk (⟦<TrieTaken as Taken>⟧.chunks self.now) }
         ensures compared { comparisons.old ≤ comparisons.new }

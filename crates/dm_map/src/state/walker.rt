@@ -60,7 +60,7 @@ impl<'s, T: Taken> Walker<'s, T> {
         Walker { looker, tables }
     }
 
-    /// How many line searches were made so far; the count stays at `u64::MAX` once it gets there.
+    /// How many line searches were made so far; the count stops growing at `u64::MAX`.
     #[inline(always)]
     pub(crate) fn searches(&self) -> u64
         ensures { result ≡ self.now.looked.searches }
@@ -146,7 +146,7 @@ impl<'s, T: Taken> Walker<'s, T> {
         self.looker.depth();
     }
 
-    /// The chunks that a snapshot took, and whether it is valid.
+    /// The chunks that a snapshot took, and whether the snapshot is valid.
     pub(crate) fn taken(&self, device: DeviceId) -> &T
         requires { device < length self.now.stack.devices }
         ensures chunks { T.chunks result.now ≡ (taken_at self.now.state device).chunks }
@@ -185,7 +185,7 @@ impl<'s, T: Taken> Walker<'s, T> {
         }
     }
 
-    /// How many chunks a snapshot took; its store has a place for each.
+    /// How many chunks a snapshot took; its store has a place for each of them.
     pub(crate) fn count(&self, device: DeviceId) -> usize
         requires { device < length self.now.stack.devices }
         ensures count { result ≡ length (taken_at self.now.state device).chunks }

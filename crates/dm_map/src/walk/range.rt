@@ -4,8 +4,8 @@
 //! line ends and at chunks: chunks of stripes; of a snapshot, unless the next chunk is read from right after; and
 //! of a written origin, if one of its snapshots has something left to do. The legs of a line (`dm_stack`'s `leg`)
 //! determine where its sectors lie, so a new target without state needs no code here; a target with state needs
-//! an arm of `map_leg` and a loop of its own. Contracts say which units are handed over, which state is left, and
-//! how often a read searches: at most once per level for each stretch of sectors with one path
+//! an arm of `map_leg` and a loop of its own. Contracts state which units are handed over, which state results,
+//! and how often a read searches: at most once per level for each stretch of sectors with one path
 //! (`specs/walk/Path`).
 
 ghost use Rattle.dm_map.specs.Prelude.{true, length, Read, Write, Device, is_striped, IsLine, Description, found_mapping, origin_mapping, range_mapping, target_mapping, IsMapped, diskless_len, piece_len, units_in, units_of, Fails, IsOnDisks, or_home, zero_unit, refuses, AreAsked, AreAskedOfOrigin, AreAskedOfSnapshot, IsHanded, HasRoomFor, IsAtLine, IsLegOf};
@@ -54,9 +54,9 @@ pub(crate) fn map_range<S: Sink, T: Taken>(
     }
 }
 
-/// Hands over the operations on sectors of a request's device, through as many levels as there may be. If the
-/// sectors are consecutive on one disk, below one line, as is usual, nothing is handed over and their place is
-/// returned.
+/// Hands over the operations on sectors of a request's device, through as many levels as any stack can have. If
+/// the sectors are consecutive on one disk, below one line, as is usual, nothing is handed over and their place
+/// is returned.
 ///
 /// Of the walk, only the code up to a snapshot is inlined here. A function that grows very large isn't inlined
 /// even if marked so, as would happen to `write_joined` of `dm_stream`, which calls this.
@@ -363,8 +363,8 @@ fn map_origin<S: Sink, T: Taken>(
     }
 }
 
-/// Hands over the writes to sectors of an origin: its snapshots take the chunk of the first sector, and then all
-/// sectors are written up to the first that needs another chunk taken.
+/// Hands over the writes to sectors of an origin: the origin's snapshots take the chunk of the first sector, and
+/// then the sectors before the first one with a chunk to take are written.
 ///
 /// After a part that was cut short, the next part may be at most twice as long, so that the snapshots aren't
 /// asked again and again about all later sectors.

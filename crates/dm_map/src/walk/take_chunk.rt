@@ -79,7 +79,7 @@ pub(crate) fn take_new_chunk<S: Sink, T: Taken>(
     Ok(Some(home))
 }
 
-/// Whether nothing is left to do for a chunk, because it is taken or the snapshot is lost.
+/// Whether nothing is left to do for a chunk, because the chunk is taken or the snapshot is lost.
 pub(crate) fn is_settled<T: Taken>(walker: &Walker<'_, T>, device: DeviceId, chunk: u64) -> bool
     requires { device < length walker.now.stack.devices }
     ensures { result ≡ is_settled (taken_at walker.now.state device) chunk }

@@ -9,7 +9,7 @@ use Rattle.std.specs.Prelude.{◌≡◌, ◌⊎◌, ◌↔◌, ◌+◌, ◌<◌,
 abbrev pub links_in : List (Vec ℕ) → List (List ℕ)
 links_in links = map (λ named. named.items) links
 
--- the indexes that device d names; none for an index past the end
+-- the indexes that device d names, or an empty list if d is past the end
 abbrev pub links_of : List (List ℕ) → ℕ → List ℕ
 links_of g d = slice_index_or g d []
 
@@ -40,7 +40,7 @@ IsFirstRing g None = (d : ℕ) → d < length g → Reaches g d d → ⊥
 
 -- Depths
 
--- the greatest of these numbers, or 0 if there are none
+-- the greatest number of a list, or 0 for an empty list
 abbrev pub greatest : List ℕ → ℕ
 greatest [] = 0
 greatest (x ∷ xs) = max x (greatest xs)

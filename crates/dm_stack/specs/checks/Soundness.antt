@@ -59,7 +59,7 @@ abbrev pub with_before : {X : Type 0} → List X → List (WithBefore X)
 with_before [] = []
 with_before (x ∷ xs) = record { before = []; it = x } ∷ map (λ later. record { before = x ∷ later.before; it = later.it }) (with_before xs)
 
--- an earlier element of the list has the same name
+-- an element's name is also that of an earlier element of the list
 abbrev pub is_repeated : {X : Type 0} → (X → List ℕ) → WithBefore X → Bool
 is_repeated name x = list_any (λ other. is_same (name other) (name x.it)) x.before
 
@@ -184,7 +184,7 @@ abbrev pub HasGoodChunk : Target → Type 0
 HasGoodChunk (targets.Snapshot origin store kind chunk) = is_bad_chunk chunk ≡ false
 HasGoodChunk _ = Unit {0}
 
--- every snapshot among these lines has a chunk size that is a power of two within the limit
+-- every snapshot line of the list has a chunk size that is a power of two within the limit
 abbrev pub HaveGoodChunks : List Line → Type 0
 HaveGoodChunks lines = All (λ line. HasGoodChunk line.target) lines
 

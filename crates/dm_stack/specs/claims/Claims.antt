@@ -55,7 +55,7 @@ IsTidy stack = AllPairs NeverMeet (claims stack)
 abbrev pub IsTop : Description → (device : ℕ) → Type 0
 IsTop stack device = All (λ claim. claim.to ≡ Device device → ⊥) (claims stack)
 
--- for each device, by id, whether it is a top device
+-- for each device, in the order of ids, whether it is a top device
 pub record AreTops (stack : Description) (tops : List Bool) : Type 0 where
   pub all : length tops ≡ length stack.devices
   pub each : (device : ℕ) → device < length stack.devices → IsTrue (slice_index_or tops device false) ↔ IsTop stack device
@@ -68,7 +68,7 @@ pub record IsClash (all : List Claim) (clash : Clash) : Type 0 where
   pub later : Claim
   pub after : List Claim
   pub split : all ≡ (before ++ earlier ∷ between) ++ later ∷ after
-  -- no two claims before the later one clash
+  -- no two claims of those before the later claim clash
   pub first : AllPairs NeverMeet (before ++ earlier ∷ between)
   -- the later claim clashes with no claim before the earlier one
   pub earliest : All (λ claim. NeverMeet claim later) before
@@ -77,7 +77,7 @@ pub record IsClash (all : List Claim) (clash : Clash) : Type 0 where
   pub of_earlier : clash.first ≡ earlier.device
   pub of_later : clash.second ≡ later.device
 
--- the clash found in a list of claims; None exactly if no two of them clash
+-- the clash found in a list of claims; None exactly if no two claims clash
 abbrev pub IsFirstClash : List Claim → Option Clash → Type 0
 IsFirstClash all (Some clash) = IsClash all clash
 IsFirstClash all None = AllPairs NeverMeet all

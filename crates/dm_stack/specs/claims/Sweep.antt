@@ -19,7 +19,7 @@ meets one other = is_same_lower one.to other.to && (nat_lt (max one.start other.
 abbrev pub clash_of : (earlier later : Claim) → Clash
 clash_of earlier later = record { lower = later.to; sector = max earlier.start later.start; first = earlier.device; second = later.device }
 
--- the clash of a later claim with the first earlier one that it clashes with, if there is one
+-- the clash of a claim with the first claim before it that it clashes with, or None if it clashes with none
 abbrev pub clash_with : (before : List Claim) → (later : Claim) → Option Clash
 clash_with before later = option_map (λ earlier. clash_of earlier later) (find (λ earlier. meets earlier later) before)
 

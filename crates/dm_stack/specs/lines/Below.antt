@@ -19,7 +19,7 @@ use Rattle.std.specs.Prelude.{◌+◌, ◌-◌, ◌*◌, ◌/◌, ◌%◌, ◌&&
 abbrev pub holds : ℕ → Line → Bool
 holds sector line = nat_le line.start sector && nat_lt sector (line.start + line.len)
 
--- the first of these lines that holds the sector
+-- the first line of the list that holds the sector
 abbrev pub line_of : List Line → ℕ → Option Line
 line_of lines sector = find (holds sector) lines
 

@@ -35,7 +35,7 @@ pub record AreFirsts (lines : List ResolvedLine) (firsts : List ℕ) (shift : �
 abbrev pub EndsAt : List ResolvedLine → (index sector : ℕ) → Type 0
 EndsAt lines index sector = MatchOption (slice_get lines index) ⊥ (λ line. line.start + line.len ≡ sector)
 
--- each of these lines ends within the limit on lengths
+-- each line of the list ends within the limit on lengths
 abbrev pub EndsAreSmall : List ResolvedLine → Type 0
 EndsAreSmall lines = All (λ line. line.start + line.len ≤ MOST_LENGTH) lines
 

@@ -21,7 +21,7 @@ abbrev pub IsSnapshotOf : Description → ResolvedSnapshot → Target → Type 0
 IsSnapshotOf stack snapshot (targets.Snapshot origin store kind chunk) = snapshot ≡ resolved_snapshot stack origin store kind chunk
 IsSnapshotOf stack snapshot _ = Unit {0}
 
--- the snapshot of a line of this device, as a list of one; an empty list for any other target
+-- the snapshot that a line of this device is, as a list of one, or an empty list for any other target
 abbrev pub over_of : Description → (device : ℕ) → Target → List ResolvedOver
 over_of stack device (targets.Snapshot origin store kind chunk) = record { device = device; snapshot = resolved_snapshot stack origin store kind chunk } ∷ []
 over_of stack device _ = []
@@ -52,6 +52,6 @@ has_crowd device = not (length device.lines == 1) && list_any (λ line. is_whole
 unfoldable pub copied : Description → List ResolvedOver
 copied stack = if list_any has_crowd stack.devices then [] else all_over stack
 
--- the snapshots of an origin that its own line keeps a copy of
+-- the snapshots of an origin of which the origin's own line keeps a copy
 unfoldable pub origin_over : Description → Lower → List ResolvedOver
 origin_over stack to = filter (λ one. is_same_lower one.snapshot.origin to) (copied stack)

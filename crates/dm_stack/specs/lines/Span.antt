@@ -46,7 +46,7 @@ is_missing stack (Disk id) = nat_le (length stack.disks) id
 abbrev pub names_missing : Description → ResolvedLine → Bool
 names_missing stack line = list_any (λ span. is_missing stack span.to) (spans line)
 
--- the devices that a line names
+-- the ids of the devices that a line names, in order
 abbrev pub line_links : ResolvedLine → List ℕ
 line_links line = flat_map (λ span. lower_link span.to) (spans line)
 

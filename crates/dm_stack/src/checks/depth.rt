@@ -28,7 +28,7 @@ pub(crate) fn check_depths(devices: &[DeviceSpec], depths: &[u32]) -> Result<(),
     Ok(())
 }
 
-/// The greatest of these depths, or 0 if there are none.
+/// The greatest depth of a list, or 0 for an empty list.
 pub(crate) fn deepest(depths: &[u32]) -> u32
     ensures { result ≡ greatest depths.now }
 {

@@ -29,7 +29,7 @@ pub(crate) fn or_out_of_memory<T>(made: Result<T, AllocError>) -> Result<T, Load
     }
 }
 
-/// Fails with the first fault that a check found, if it found one.
+/// Fails with the first fault that a check found, or succeeds if there is none.
 pub(crate) fn refuse(first: Option<LoadFault>) -> Result<(), LoadFault>
     ensures { result_err result ≡ first }
 {
@@ -80,7 +80,7 @@ impl Placed for DiskPath {
     }
 }
 
-/// Fails with this kind of fault at the first element of a list that is bad.
+/// Fails with this kind of fault at the first bad element of a list.
 pub(crate) fn check_each<T: Placed, F: Fn(&T) -> bool>(
     kind: LoadKind,
     list: &[T],

@@ -18,8 +18,8 @@ const FOLLOWED_LEVELS: u32 = MOST_DEPTH + 1;
 
 /// Finds the depth of each device, cut off at `FOLLOWED_LEVELS`.
 ///
-/// A device that names no device has depth 1; any other is one deeper than the deepest that it names. A result of
-/// `FOLLOWED_LEVELS` means that or any greater depth, or that the device is on a cycle.
+/// A device that names no device has depth 1; any other is one deeper than the deepest device that it names. A
+/// result of `FOLLOWED_LEVELS` means that or any greater depth, or that the device is on a cycle.
 ///
 /// Fails only when out of memory. Cost: linear in the links for each level of devices, of which at most
 /// `FOLLOWED_LEVELS` are followed, with memory for two numbers per device.

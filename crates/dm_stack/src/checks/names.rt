@@ -15,7 +15,7 @@ use std::alloc::Global;
 pub(crate) trait Named {
     ghost name_of: { Self → List ℕ };
 
-    /// The name as it is in the input.
+    /// The name as written in the input.
     fn name(&self) -> &str
         ensures { result.now ≡ name_of self.now };
 }
@@ -72,7 +72,7 @@ pub(crate) fn check_names(
     Ok(Names { devices, disks })
 }
 
-/// Indexes the names of a list. Fails at the first element with the name of an earlier one.
+/// Indexes the names of a list. Fails at the first element with the name of an earlier element.
 pub(crate) fn index_of<T: Named + Placed>(alloc: Global, list: &[T]) -> Result<NameIndex, LoadFault>
     ensures { Answers Source (λ index. index) result
         (unless (first_or (twice_in T.name_of T.place_of list.now) None) (map T.name_of list.now)) }

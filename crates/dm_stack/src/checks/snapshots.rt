@@ -1,9 +1,8 @@
 //! The check of snapshots and origins against their tables and the origins that they name, and the list of
 //! snapshots.
 //!
-//! A snapshot or an origin is a whole device: its line is the only one of its table, and as long as the origin
-//! that it names. Mapping relies on these rules, and shifts instead of dividing by a chunk size, so no rule may
-//! be dropped.
+//! The line of a snapshot or an origin is the only one of its table, and as long as the origin that it names.
+//! Mapping relies on these rules, and shifts instead of dividing by a chunk size, so no rule may be dropped.
 
 ghost use Rattle.dm_stack.specs.Prelude.{[], IfOk, OnOk, described, resolved_target, has_snapshot, snapshots, is_bad_snapshot};
 ghost use Rattle.std.specs.Prelude.{◌≡◌, ◌∷◌, ◌++◌, if◌then◌else◌};

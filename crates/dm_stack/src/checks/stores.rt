@@ -18,7 +18,7 @@ use std::alloc::{AllocError, Global};
 
 /// The depth of each device as a part of stores, which is above `MOST_DEPTH` if the device can't hold a store.
 ///
-/// Fails only when out of memory. Cost: that of finding depths.
+/// Fails only when out of memory. Cost: the same as that of `depths`.
 pub(crate) fn store_depths(
     alloc: Global,
     stack: &Resolved,

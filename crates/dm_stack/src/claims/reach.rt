@@ -11,7 +11,7 @@ use crate::id::Lower;
 use dm_table::Use;
 use std::alloc::{AllocError, Global};
 
-/// The greatest ends of some claims on one device or disk, or 0 if there are none.
+/// The greatest ends of claims of each kind on one device or disk; 0 for a kind without claims.
 #[derive(Clone, Copy, Drop)]
 pub(crate) struct Reach {
     /// The greatest end of claims that share sectors with no other claim.

@@ -1,4 +1,4 @@
-//! Chunk sizes of snapshots: powers of two, so mapping shifts and masks instead of dividing by them.
+//! Chunk sizes of snapshots, which are powers of two, so mapping shifts and masks instead of dividing.
 //!
 //! A small request to a snapshot would otherwise take six divisions, a tenth of the request's time.
 //!
@@ -12,7 +12,8 @@ ghost use Rattle.std.specs.Prelude.{◌≡◌, ◌*◌, ◌/◌, ◌%◌, ◌<�
 use crate::checks::limits::MOST_SNAPSHOT_CHUNK;
 use std::marker::Model;
 
-/// The number of sectors in a snapshot's chunks: a power of two from 1 to 1,024. Contracts see it as that number.
+/// The number of sectors in a snapshot's chunks: a power of two from 1 to 1,024. Contracts see a `ChunkSize` as
+/// this number.
 #[derive(Clone, Copy, Debug, Drop)]
 pub struct ChunkSize {
     /// The exponent: a chunk has 2^shift sectors.

@@ -10,7 +10,7 @@ ghost use Rattle.std.specs.Prelude.{◌≡◌, ◌+◌, ◌*◌, ◌^◌, ◌/�
 
 use std::marker::Model;
 
-/// A number to divide by. Contracts see it as that number.
+/// A number to divide by. Contracts see a `Divisor` as this number.
 #[derive(Debug, Drop)]
 pub struct Divisor {
     value: u64,

@@ -15,9 +15,9 @@ use crate::lines::resolved_line::{ResolvedOrigin, ResolvedSnapshot, ResolvedTarg
 pub enum Beneath<'l> {
     /// Consecutive sectors of a device or a disk, from `sector` on.
     Lies { to: Lower, sector: u64 },
-    /// Nothing: reads return zeros, writes are discarded.
+    /// No sectors: reads return zeros, and writes are discarded.
     Zeros,
-    /// Nothing: every request fails.
+    /// No sectors: every request fails.
     Errors,
     /// A snapshot, whose state determines where each of its sectors lies.
     Snapshot(&'l ResolvedSnapshot),

@@ -1,7 +1,8 @@
 //! The snapshots of each origin, which are stored with the origin's line.
 //!
 //! All snapshots of a stack are collected once per load. Each origin line has its own copy of the origin's
-//! snapshots, so that a write needs no search for them; a snapshot's line reuses the entry collected for it.
+//! snapshots, so that a write needs no search for them; a snapshot's line reuses the entry collected for the
+//! snapshot.
 
 ghost use Rattle.dm_stack.specs.Prelude.{IfOk, IfSome, OnOk, filter, Contains, flat_map, list_any, is_same_lower, all_over, copied, has_crowd, is_whole, over_of, resolved_snapshot};
 ghost use Rattle.std.specs.Prelude.{◌≡◌, ◌++◌};

@@ -63,7 +63,7 @@ static ROWS: [(&str, &str, &str, Usage); 6] = [
             valid: false,
         },
     ),
-    // The kernel document's example: 49,542 chunks, here all taken by one request.
+    // The example of the kernel's document has 49,542 chunks, which one request takes in this test.
     (
         "s: 0 396336 snapshot base cow P 8\n",
         "base 396336\ncow 2097152\n",
