@@ -1,4 +1,4 @@
--- The mapper's view, and the promise of `Mapper::request`: what each of its results means.
+-- The view of a mapper, and the promise of `Mapper::request` for each of its results.
 use Rattle.dm_map.specs.Base.{ℕ, Bool, true, false, List, Result, Ok, Err, OnOk, Read, Request, stack_depth, Description}
 use Rattle.dm_map.specs.pieces.Sink.{OfBeginning, SinkPast}
 use Rattle.dm_map.specs.pieces.Units.{BlockUnit}
@@ -11,7 +11,7 @@ use Rattle.dm_map.specs.declared.mapper.MapFault.{MapFault}
 use Rattle.dm_map.specs.declared.mapper.MapFault.TheVariants as faults
 use Rattle.std.specs.Prelude.{◌≡◌, ◌+◌, ◌*◌, ◌≤◌}
 
--- a mapper as contracts see it: its stack, the snapshots' state after the requests so far, whether a sink failed, all searches that its looker counted, and those of the last request that was not refused as `Stopped`
+-- what contracts see of a mapper: its stack, the state of the snapshots, whether the sink failed, the counts of its looker, and the counts of the last request that was not refused as `Stopped`
 pub record MapperView : Type 0 where
   pub stack : Description
   pub state : State
@@ -19,36 +19,36 @@ pub record MapperView : Type 0 where
   pub looked : Counts
   pub last : Counts
 
--- the mapper with its looker's counts replaced, as after look-ups that belong to no request
+-- the mapper with these counts for its looker, as after look-ups that belong to no request
 abbrev pub with_looked : MapperView → Counts → MapperView
 with_looked mapper counts = record { stack = mapper.stack; state = mapper.state; failed = mapper.failed; looked = counts; last = mapper.last }
 
--- P, if the sink failed during this request; trivially true for any other result
+-- if the sink failed during this request, P holds
 abbrev pub OnSinkFault : {R F : Type 0} → Result R (MapFault F) → Type 0 → Type 0
 OnSinkFault (Ok done) P = Unit {0}
 OnSinkFault (Err (faults.Sink fault)) P = P
 OnSinkFault (Err faults.Stopped) P = Unit {0}
 
--- P, if the request was refused since an earlier one had failed; trivially true for any other result
+-- if the request was refused because an earlier one had failed, P holds
 abbrev pub OnStopped : {R F : Type 0} → Result R (MapFault F) → Type 0 → Type 0
 OnStopped (Ok done) P = Unit {0}
 OnStopped (Err (faults.Sink fault)) P = Unit {0}
 OnStopped (Err faults.Stopped) P = P
 
--- P, unless the request was refused since an earlier one had failed; then trivially true
+-- P holds, unless the request was refused because an earlier one had failed
 abbrev pub OnTried : {R F : Type 0} → Result R (MapFault F) → Type 0 → Type 0
 OnTried (Ok done) P = P
 OnTried (Err (faults.Sink fault)) P = P
 OnTried (Err faults.Stopped) P = Unit {0}
 
--- the sink failed after some prefix of these units, which put the mapper into its failed state
+-- the sink failed after a prefix of these units, and the mapper, which had not failed before, is now marked as failed
 pub record HasFailed {S : Type 0} (past : SinkPast S) (old new : S) (before after : MapperView) (units : List BlockUnit) : Type 0 where
   pub left : OfBeginning past.left old units new
   pub faults : (past.view new).faults ≡ (past.view old).faults + 1
   pub going : before.failed ≡ false
   pub failed : after.failed ≡ true
 
--- the promise of a request to a device: the sink received all its units and the mapper is in the state after it; or the sink failed, and the mapper with it; or the mapper had failed earlier, and nothing changed. Unless it had failed earlier, the searches are counted, and a read makes at most one per level for each stretch of sectors with one path
+-- the promise of a request to a device: the sink received all units of the request, and the mapper is in the state after the request; or the sink failed, and the mapper is marked as failed; or the mapper had failed earlier, and nothing changed. Unless the mapper had failed earlier, the searches are counted, and a read makes at most one search per level for each stretch of sectors with one path
 pub record HasMapped {S R F : Type 0} (past : SinkPast S) (result : Result R (MapFault F)) (old new : S) (before after : MapperView) (request : Request) (device : ℕ) : Type 0 where
   pub took : OnOk result (past.took old (step_for before.stack request device before.state).units new)
   pub state : OnOk result (after.state ≡ (step_for before.stack request device before.state).state)

@@ -1,3 +1,3 @@
--- Laws whose proofs are among the specs, for importers that can import nothing but specs.
+-- Laws whose proofs are among the specs, because files that may import only specs need them.
 pub mod Contents
 pub mod PieceLists

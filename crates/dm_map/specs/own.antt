@@ -1,4 +1,4 @@
--- What disks hold after requests; the laws that each top device behaves like a disk of its own, and when reads fail.
+-- What disks hold after requests, the laws that each top device behaves like a disk of its own, and when reads fail.
 pub mod Ample
 pub mod Contents
 pub mod Cuts

@@ -1,5 +1,5 @@
--- The way down a stack: what a read or a write of sectors does on each device that it passes, and the
--- code for it.
+-- Walks down a stack: what a read or a write of sectors does on each device that it passes, and what
+-- contracts promise for the code of a walk.
 pub mod Bound
 pub mod Chunk
 pub mod Home

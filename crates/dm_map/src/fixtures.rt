@@ -1,5 +1,4 @@
-//! Helpers for tests: stacks from texts, usage and counts after a request, and taking a chunk if possible.
-//! possible.
+//! Helpers for tests, which load a stack, map one request and return the usage and counts, or take a chunk.
 
 use crate::mapper::Mapper;
 use crate::pieces::piece_list::PieceList;
@@ -11,14 +10,14 @@ use dm_table::{parse_disks, parse_request, parse_table};
 use std::alloc::Global;
 use std::process::Abort;
 
-/// Loads the stack of a table and a disk list, given as texts.
+/// Loads the stack that the texts of a table and a disk list describe.
 pub(crate) fn stack_of(rt: &impl Abort, alloc: Global, table: &str, disks: &str) -> Stack {
     let devices = parse_table(alloc, table.as_bytes()).expect(rt, "devices");
     let disks = parse_disks(alloc, disks.as_bytes()).expect(rt, "disks");
     Stack::load(alloc, devices, disks).expect(rt, "a stack")
 }
 
-/// Maps one request with a new mapper, and returns the usage of the first snapshot, if there is one, and then the
+/// Maps one request with a new mapper. Returns the usage of the first snapshot, if there is one, and the
 /// request's searches and comparisons.
 pub(crate) fn told_after(
     rt: &impl Abort,
@@ -42,8 +41,8 @@ pub(crate) fn told_after(
     (usage, (mapper.searches(), mapper.probes()))
 }
 
-/// Takes a chunk, unless it is taken already, no place is left or the snapshot is invalid; returns whether it
-/// took it.
+/// Takes a chunk, unless it is taken already, no place is left or the snapshot is invalid. Returns whether the
+/// chunk was taken by this call.
 pub(crate) fn offer<T: Taken>(taken: &mut T, chunk: u64) -> bool {
     taken.is_valid() && !taken.is_full() && taken.offer(chunk)
 }

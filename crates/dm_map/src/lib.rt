@@ -1,10 +1,10 @@
 //! Maps requests to devices of a checked stack, as reads and writes of disks.
 //!
-//! `specs/walk/Mapping.antt` defines what a request does with each sector; the code hands it to a `Sink` in
-//! pieces.
+//! `specs/walk/Mapping.antt` defines what a request does with each sector; the code hands these operations to a
+//! `Sink` in pieces.
 //!
-//! Callers use `mapper`. It walks down a stack (`walk`), in the state that earlier requests left (`state`), and
-//! hands pieces to a sink (`pieces`). `own` states laws about what disks hold afterwards.
+//! Callers use `mapper`, which walks down a stack (`walk`), in the state that earlier requests left (`state`),
+//! and hands pieces to a sink (`pieces`). `own` states laws about what disks hold after requests.
 #![tactic(auto)]
 
 #[cfg(test)]

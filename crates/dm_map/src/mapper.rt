@@ -1,8 +1,8 @@
 //! The mapper, which turns a request into operations on disks and hands these to a sink.
 //!
-//! The mapper looks up lines through its looker and keeps no list, so mapping a request allocates nothing.
-//! `specs/walk/Mapping.antt` defines what happens to each sector, `walk` cuts a range into pieces, and `walker`
-//! holds the state that one request leaves for the next.
+//! The mapper looks up lines through its looker and keeps no list of pieces, so mapping a request allocates
+//! nothing. `specs/walk/Mapping.antt` defines what happens to each sector, `walk` cuts a range into pieces, and
+//! `walker` holds the state that one request leaves for the next.
 
 ghost use Rattle.dm_map.specs.Prelude.{false, true, is_none, length, nat_lt, IfOk, IfSome, Read, snapshots, IsSnapshot, stack_depth, lower_len, IsStore, request_step, no_counts, AreAdded, IsFitting, IsWithinPlaces, with_looked, HasMapped, read_stretches, lost, put, start_state, taken_at, with_chunk, number_in, device_len, IsFirstHomes, has_room, snapshot_at, usage_of, or_home, HasRoomFor, IsWalked, IsFirstRead, IsGroundNear, Device};
 ghost use Rattle.dm_map.specs.declared.mapper.MapFault.TheVariants.{Sink};
@@ -29,7 +29,7 @@ use thiserror::Error;
 #[cfg(test)]
 mod tests;
 
-/// Why mapping a request stopped before its end.
+/// Why mapping a request stopped before the request's end.
 #[derive(Clone, Copy, Debug, PartialEq, Eq, Drop, Error)]
 #[error_bound(F: fmt::Display)]
 pub enum MapFault<F> {
@@ -41,8 +41,8 @@ pub enum MapFault<F> {
     Stopped,
 }
 
-/// Maps requests through a stack, one after the other. Contracts see its stack, the state that its requests left,
-/// whether a sink failed, and the counts of its looker.
+/// Maps requests through a stack, one after the other. Contracts see the mapper's stack, the state that its
+/// requests left, whether the sink failed, and the counts of its looker.
 #[derive(Drop)]
 pub struct Mapper<'s, T: Taken> {
     walker: Walker<'s, T>,
@@ -75,8 +75,8 @@ impl<'s, T: Taken> Model for Mapper<'s, T> {
 }
 
 impl<'s, T: Taken> Mapper<'s, T> {
-    /// Makes a mapper for the looker's stack, in the state before any request. This costs at most one line search
-    /// for each snapshot.
+    /// Makes a mapper for the looker's stack, in the state before any request. Cost: at most one line search for
+    /// each snapshot.
     ///
     /// # Errors
     ///
@@ -104,17 +104,18 @@ impl<'s, T: Taken> Mapper<'s, T> {
     /// Hands the operations for a request to this device to the sink, in rising order of sectors. If the request
     /// passes the end of the device, all of its sectors fail.
     ///
-    /// The id must be one of the mapper's stack, which must also be the sink's, and the sink must have room for
-    /// the request's sectors. Each piece covers sectors whose path down stays in one line, and one chunk, of each
-    /// device; chunks of a snapshot that are read in a row may share a piece. A read costs at most as many line
-    /// searches as the stack is deep for each run of sectors with one path (`specs/walk/Path`), however long the
-    /// run, and at most 17 comparisons for each search; `searches` and `probes` return both counts. No memory is
-    /// allocated. Whatever the result, no snapshot holds more chunks than its store has room for.
+    /// The id must be one of the mapper's stack, which must be the sink's stack, too, and the sink must have room
+    /// for the sectors. Each piece covers sectors whose path down stays in one line, and one chunk, of each
+    /// device; chunks of a snapshot that are read from consecutive sectors may share a piece. A read costs at
+    /// most as many line searches as the stack is deep for each run of sectors with one path (`specs/walk/Path`),
+    /// however long the run, and at most 17 comparisons for each search; `searches` and `probes` return both
+    /// counts. No memory is allocated. Whatever the result, no snapshot holds more chunks than its store has room
+    /// for.
     ///
     /// # Errors
     ///
-    /// `Sink` if the sink failed: it received a prefix of the operations, and the mapper maps nothing from then
-    /// on. `Stopped` if the sink failed during an earlier request: nothing changes.
+    /// `Sink` if the sink failed; the sink received a prefix of the operations, and the mapper maps nothing from
+    /// then on. `Stopped` if the sink failed during an earlier request; nothing changes then.
     #[inline(always)]
     pub fn request<S: Sink>(
         &mut self,
@@ -135,12 +136,12 @@ impl<'s, T: Taken> Mapper<'s, T> {
         }
     }
 
-    /// Like `request`; but if all sectors of the request lie in a row on one disk, below one line of its device,
-    /// nothing is handed to the sink, and their place is returned: the caller reads or writes them there.
+    /// Like `request`; but if all sectors of the request are consecutive sectors of one disk, below one line of
+    /// the device, nothing is handed to the sink. The caller reads or writes them at the returned place.
     ///
     /// # Errors
     ///
-    /// `Sink` if the sink failed, and `Stopped` if it failed during an earlier request, as in `request`.
+    /// `Sink` if the sink failed, and `Stopped` if the sink failed during an earlier request, as in `request`.
     #[inline(always)]
     pub fn request_or_home<S: Sink>(
         &mut self,
@@ -174,9 +175,9 @@ impl<'s, T: Taken> Mapper<'s, T> {
         }
     }
 
-    /// Records that a valid snapshot's store holds this chunk, as the next in its list; used to restore a state
-    /// that no request of this mapper left. If the snapshot has the chunk already, nothing changes and `false` is
-    /// returned. No memory is allocated. Cost: one look-up of the chunk.
+    /// Records that a valid snapshot's store holds this chunk, as the next one in the store's list, to restore a
+    /// state that no request of this mapper left. If the chunk is recorded already, nothing changes and `false`
+    /// is returned. No memory is allocated. Cost: one look-up of the chunk.
     pub fn restore(&mut self, device: DeviceId, chunk: u64) -> bool
         requires device { device < length self.old.stack.devices }
         requires valid { (taken_at self.old.state device).valid ≡ true }
@@ -191,7 +192,7 @@ impl<'s, T: Taken> Mapper<'s, T> {
         self.walker.offer(device, chunk)
     }
 
-    /// Marks a snapshot as invalid, because its store says so. No memory is allocated.
+    /// Marks a snapshot as invalid, because its store is marked as invalid. No memory is allocated.
     pub fn lose(&mut self, device: DeviceId)
         requires { device < length self.old.stack.devices }
         ensures { self.new ≡ record self.old {
@@ -202,7 +203,8 @@ impl<'s, T: Taken> Mapper<'s, T> {
         self.walker.invalidate(device);
     }
 
-    /// Returns the chunks that a snapshot's store holds, and whether it is valid. No memory is allocated.
+    /// Returns the chunks that a snapshot's store holds, and whether the snapshot is valid. No memory is
+    /// allocated.
     pub fn taken(&self, device: DeviceId) -> &T
         requires { device < length self.now.stack.devices }
         ensures chunks { T.chunks result.now ≡ (taken_at self.now.state device).chunks }
@@ -211,8 +213,8 @@ impl<'s, T: Taken> Mapper<'s, T> {
         self.walker.taken(device)
     }
 
-    /// Finds where the first sectors of a range of a store lie in a row on a disk. The look-ups are counted to no
-    /// request. No memory is allocated.
+    /// Finds the consecutive disk sectors that hold the first sectors of a range of a store. The look-ups don't
+    /// count for any request. No memory is allocated.
     pub fn first_homes(&mut self, store: Lower, sector: u64, len: u64) -> HomeStretch
         requires some { 1 ≤ len }
         requires inside { sector + len ≤ lower_len self.old.stack store }
@@ -232,7 +234,7 @@ impl<'s, T: Taken> Mapper<'s, T> {
     }
 
     /// Finds where the first sectors of a range of a device are read from, in the state that the requests left.
-    /// The look-ups are counted to no request. No memory is allocated. Cost: one look-up for each level.
+    /// The look-ups don't count for any request. No memory is allocated. Cost: one look-up for each level.
     pub fn first_read(&mut self, device: DeviceId, sector: u64, len: u64) -> Stretch
         requires some { 1 ≤ len }
         requires device { device < length self.old.stack.devices }
@@ -250,7 +252,7 @@ impl<'s, T: Taken> Mapper<'s, T> {
         stretch
     }
 
-    /// Proves that no snapshot took more chunks than its store has room for, so the stack can be in this state.
+    /// Proves that no snapshot took more chunks than its store has room for, so the state fits the stack.
     pub fn recall_places(&self)
         ensures within { IsWithinPlaces self.now.stack self.now.state }
         ensures fits { IsFitting self.now.stack self.now.state }
@@ -258,7 +260,7 @@ impl<'s, T: Taken> Mapper<'s, T> {
         self.walker.recall_places();
     }
 
-    /// Marks the mapper as failed, so that it maps nothing more, and returns the sink's fault.
+    /// Marks the mapper as failed, so that it maps no more requests, and returns the sink's fault.
     fn stop<F>(&mut self, fault: F) -> MapFault<F>
         ensures fault { result ≡ Sink fault }
         ensures failed { self.new ≡ record self.old { failed = true } }
@@ -267,8 +269,7 @@ impl<'s, T: Taken> Mapper<'s, T> {
         MapFault::Sink(fault)
     }
 
-    /// Reads the memory that a look-up of this chunk of a snapshot starts with, so that it is in the cache by
-    /// then.
+    /// Prefetches the memory that a look-up of this chunk of a snapshot reads first.
     ///
     /// The look-up itself is not made, and no search is counted. The value read is returned only to keep the
     /// compiler from dropping the read. No memory is allocated. Cost: two memory reads.
@@ -280,7 +281,7 @@ impl<'s, T: Taken> Mapper<'s, T> {
     /// Returns how much of a snapshot's store is used, and whether the snapshot is valid.
     ///
     /// The device must be a snapshot of the mapper's stack. No snapshot holds more chunks than its store has room
-    /// for, even after a failure. Cost: one look-up, which is counted to no request. No memory is allocated.
+    /// for, even after a failure. Cost: one look-up, which doesn't count for any request. No memory is allocated.
     pub fn usage(&mut self, device: DeviceId) -> Usage
         requires { IsSnapshot self.old.stack device }
         ensures usage { IfSome (snapshot_at self.old.stack device)
@@ -294,15 +295,15 @@ impl<'s, T: Taken> Mapper<'s, T> {
         let searches = self.walker.searches();
         let comparisons = self.walker.comparisons();
         let usage = usage_of(&mut self.walker, device);
-        // Count these look-ups to the time before the last request, since they belong to none.
+        // Look-ups that belong to no request are counted with those before the last request.
         self.searches_before += self.walker.searches() - searches;
         self.comparisons_before += self.walker.comparisons() - comparisons;
         usage
     }
 
-    /// Returns how many line searches the last request made that was not answered `Stopped`; 0 before the first
-    /// request. A line search looks up, in the table of one device, the line that holds a sector. The looker's
-    /// count stays at `u64::MAX` once it gets there. No memory is allocated.
+    /// Returns how many line searches were made by the last request that didn't fail as `Stopped`, or 0 before
+    /// the first request. A line search looks up, in the table of one device, the line that holds a sector. The
+    /// looker's count stops growing at `u64::MAX`. No memory is allocated.
     pub fn searches(&self) -> u64
         ensures { result ≡ self.now.last.searches }
     {
@@ -318,8 +319,8 @@ impl<'s, T: Taken> Mapper<'s, T> {
     }
 }
 
-/// Hands over the operations of a request, or returns where its sectors lie in a row on one disk. The request's
-/// fields are separate parameters so that they stay in registers.
+/// Hands over the operations of a request, or returns the consecutive disk sectors that hold all of its sectors.
+/// The request's fields are separate parameters so that they stay in registers.
 #[inline(always)]
 fn pieces_or_home<S: Sink, T: Taken>(
     walker: &mut Walker<'_, T>,

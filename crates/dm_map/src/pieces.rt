@@ -1,5 +1,5 @@
-//! The operations that a request becomes, sector by sector (units) and as ranges (pieces), and the sink that the
-//! pieces are handed to.
+//! The operations that a request becomes, sector by sector (units) and as ranges (pieces), and the sink that
+//! receives the pieces.
 
 pub(crate) mod discard;
 pub(crate) mod piece;

@@ -1,20 +1,20 @@
 //! A check that the process has enough stack memory for programs that map requests.
 //!
-//! A program that runs out of stack is killed by a signal, at any point. So the kernel's table of limits for the
-//! process is read before anything else. A smaller limit on the address space isn't noticed.
+//! A program that runs out of stack memory is killed by a signal, at any point, so the kernel's limit on the
+//! stack is read before anything else is done. A smaller limit on the address space isn't noticed.
 
 use std::fs::File;
 use std::io::Read;
 
-/// The smallest limit on the stack that is enough, in bytes. The deepest stack of devices needs 225 KiB, and
-/// arguments and environment, which are on the stack too, have up to 128 KiB if the limit is low.
+/// The smallest limit on stack memory that is enough, in bytes. The deepest stack of devices needs 225 KiB, and
+/// the arguments and the environment, which are on the stack, too, use up to 128 KiB if the limit is low.
 const LEAST_STACK: u64 = 524_288;
 
-/// The file with the limits of this process, one to a line: see `proc_pid_limits(5)`.
+/// The file that lists the limits of this process, one in each line: see `proc_pid_limits(5)`.
 const LIMITS: &str = "/proc/self/limits";
 
-/// Whether the limit on the stack is at least 512 KiB, which devices at the limit of depth need; also true if the
-/// limit can't be found out. Programs call this before they do anything else.
+/// Whether the limit on stack memory is at least 512 KiB, which is enough for devices at the limit of depth, or
+/// can't be read. Programs call this before they do anything else.
 #[inline(never)]
 pub fn has_stack_room(rt: &HostRuntime) -> bool {
     match stack_limit(rt) {
@@ -23,8 +23,8 @@ pub fn has_stack_room(rt: &HostRuntime) -> bool {
     }
 }
 
-/// Reads the limit on the stack, in bytes, from the kernel's table. None if the table can't be read or the stack
-/// is unlimited.
+/// Reads the limit on stack memory, in bytes, from the kernel's table. None if the table can't be read or the
+/// limit is infinite.
 fn stack_limit(rt: &HostRuntime) -> Option<u64> {
     let mut table = [0; 2048];
     let mut file = File::open(rt, LIMITS).ok()?;

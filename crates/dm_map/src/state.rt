@@ -1,5 +1,5 @@
-//! The state that requests leave to later ones: which chunks each snapshot's store holds, how a program keeps
-//! that, and how much of each store is used.
+//! The state that requests leave for later ones: which chunks each snapshot's store holds, how the code keeps
+//! these chunks, and how much of each store is used.
 
 pub(crate) mod plain_taken;
 pub(crate) mod run_taken;

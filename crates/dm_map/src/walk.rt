@@ -1,5 +1,4 @@
-//! The way down a stack: what a read or a write of sectors does on each device that it passes, and the code for
-//! it.
+//! Walks down a stack: what a read or a write of sectors does on each device that it passes.
 
 pub(crate) mod chunk;
 pub(crate) mod home;

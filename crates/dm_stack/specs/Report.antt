@@ -8,7 +8,7 @@ use Rattle.dm_stack.specs.Description.{Description, disk_name_at, name_at}
 use Rattle.dm_stack.specs.checks.Depth.{stack_depth}
 use Rattle.std.specs.Prelude.{◌≡◌, ◌∷◌, ◌++◌}
 
--- the name of a device or a disk as a line of a table spells it
+-- the text by which a line of a table refers to a device or a disk
 abbrev pub lower_text : Description → Lower → List ℕ
 lower_text stack (Device id) = codes "/dev/mapper/" ++ name_at stack id
 lower_text stack (Disk id) = disk_name_at stack id
@@ -26,7 +26,7 @@ report_text stack found =
     codes "devices " ++ decimal (length stack.devices) ++ code "\n" ∷ codes "disks " ++ decimal (length stack.disks)
     ++ code "\n" ∷ codes "depth " ++ decimal (stack_depth stack) ++ code "\n" ∷ tidiness_text stack found ++ code "\n" ∷ []
 
--- the text is the last line of the report of this stack, for the first clash of its claims
+-- the text is the last line of the report of this stack, without a newline
 pub record SaysTidiness (stack : Description) (text : List ℕ) : Type 0 where
   pub found : Option Clash
   pub clash : IsFirstClash (claims stack) found

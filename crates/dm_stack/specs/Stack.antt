@@ -1,4 +1,4 @@
--- What a loaded stack keeps beside its description.
+-- What a loaded stack keeps in addition to its description.
 use Rattle.dm_stack.specs.Base.{ℕ, List, map, DeviceSpec}
 use Rattle.dm_stack.specs.declared.lines.resolved_table.ResolvedDevice.{ResolvedDevice}
 use Rattle.dm_stack.specs.Description.{Description, end_of}
@@ -12,12 +12,12 @@ use Rattle.std.specs.Prelude.{◌≡◌, ◌^◌, ◌≤◌}
 abbrev pub resolved_device : Description → DeviceSpec → ResolvedDevice
 resolved_device stack device = record { end = end_of device.lines; ro = device.ro; table = map (resolved_line stack) device.lines }
 
--- the number of sectors of a device or a disk: at least one, at most 2^50
+-- a length of a device or a disk, which is from 1 to 2^50 sectors
 pub record IsLength (len : ℕ) : Type 0 where
   pub some : 1 ≤ len
   pub small : len ≤ 2 ^ 50
 
--- what a loaded stack keeps fits its description, which is sound: names, devices by ids, the depth, and the snapshots
+-- the description is sound, and what a loaded stack keeps fits it: names, devices with ids, the depth, and the snapshots
 pub record IsLoaded (stack : Description) (devices disks : List (List ℕ)) (by_ids : List ResolvedDevice) (deepest : ℕ) (over : List ℕ) : Type 0 where
   pub sound : IsSound stack
   pub device_names : devices ≡ map (λ device. device.name) stack.devices

@@ -1,4 +1,4 @@
--- The checks of a load; `Soundness` lists them in the order in which they are made.
+-- The checks of a load, which `Soundness` lists in the order in which they run.
 pub mod BadLines
 pub mod Depth
 pub mod Graph

@@ -1,4 +1,4 @@
-//! The checks of a load, a module for each kind; `load` runs them in order.
+//! The checks of a load, with a module for each kind; `load` runs the checks in order.
 
 pub mod depth;
 pub mod faults;

@@ -1,7 +1,7 @@
 //! Ids: indexes of devices and disks in the lists that a stack was loaded from.
 //!
-//! Contracts see an id as a number. An id is valid only for the stack that returned it; in another stack it may
-//! name nothing.
+//! Contracts see an id as a number. An id is valid only for the stack that returned it; another stack may have no
+//! device or disk with that id.
 
 ghost use Rattle.std.specs.Prelude.{◌≡◌};
 

@@ -1,7 +1,7 @@
 //! Checked stacks of devices, and look-up of the line that holds a sector.
 //!
-//! A `Stack` exists only if no check of a load finds a fault, so callers never check soundness again. Only a
-//! `Looker` finds lines, and it counts its searches.
+//! A `Stack` exists only if no check of a load finds a fault, so callers never check soundness again. Lines are
+//! found only by a `Looker`, which counts its searches.
 #![tactic(auto)]
 
 mod checks;

@@ -1,4 +1,4 @@
-//! Lines with ids: finding the line of a sector, what lies below it, and the layout of exception stores.
+//! Lines with ids: finding the line of a sector, what lies below the sector, and the layout of exception stores.
 
 pub mod chunk_size;
 pub mod divisor;

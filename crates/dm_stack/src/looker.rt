@@ -1,8 +1,8 @@
 //! Lookers, which find the lines of sectors.
 //!
-//! Nothing else finds lines, so a bound on a looker's count bounds the work of mapping. No call gives access to
-//! the stack, and a looker can't be copied, so its count includes all its searches. The line of an origin holds
-//! the origin's snapshots (`ResolvedOrigin::over`), so finding them takes no search.
+//! Only lookers find lines, so a bound on a looker's count bounds the work of mapping. No method returns the
+//! stack, and a looker can't be copied, so its count includes all searches. The line of an origin holds the
+//! origin's snapshots (`ResolvedOrigin::over`), so finding the snapshots takes no search.
 
 ghost use Rattle.dm_stack.specs.Prelude.{length, IsLineOf, device_len, disk_len, is_ro_at, lines_at, next_count, snapshots, AreSnapshots, stack_depth, IsLength, IsSound, binary_digits};
 ghost use Rattle.std.specs.Prelude.{◌≡◌, ◌+◌, ◌-◌, ◌*◌, ◌<◌, ◌≤◌};
@@ -39,7 +39,7 @@ impl<'s> Model for Looker<'s> {
 }
 
 impl Stack {
-    /// A looker of this stack, whose counts are 0.
+    /// A new looker for this stack, whose counts are 0.
     pub fn looker(&self) -> Looker<'_>
         ensures stack { result.stack ≡ self.now }
         ensures searches { result.searches ≡ 0 }
@@ -76,7 +76,7 @@ impl<'s> Looker<'s> {
     {
         let stack = self.stack;
         let (line, comparisons) = stack.find_line(device, sector, &mut self.last);
-        // Both grow, or neither, so that no comparison is counted without its search.
+        // Either both counts grow or neither does, so that no comparison is counted without its search.
         if self.searches < u64::MAX {
             self.searches += 1;
             self.comparisons = self.comparisons.saturating_add(comparisons);
@@ -84,15 +84,15 @@ impl<'s> Looker<'s> {
         line
     }
 
-    /// The number of searches so far; it stays at `u64::MAX` once it gets there.
+    /// The number of searches so far; the count stops growing at `u64::MAX`.
     pub fn searches(&self) -> u64
         ensures { result ≡ self.now.searches }
     {
         self.searches
     }
 
-    /// How often searches compared a line's start with a sector so far. The count stops growing at `u64::MAX`,
-    /// and when the count of searches has reached that.
+    /// How often searches compared a line's start with a sector so far. The count stops growing at `u64::MAX`, or
+    /// when the count of searches has reached `u64::MAX`.
     pub fn comparisons(&self) -> u64
         ensures { result ≡ self.now.comparisons }
     {

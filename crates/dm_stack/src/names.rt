@@ -1,4 +1,4 @@
-//! Names of devices and disks: an index over them, and finding the one that a text begins with.
+//! Names of devices and disks: an index of names, and finding the name at the front of a text.
 
 pub mod indexed;
 pub mod name_index;

@@ -46,7 +46,7 @@ fn tidiness_text(alloc: Global, stack: &Stack) -> Result<String, AllocError>
     )
 }
 
-/// The name by which a line refers to a lower device or disk, in two parts.
+/// The text by which a line refers to a lower device or disk, in two parts: the directory, if any, and the name.
 fn lower_words(stack: &Stack, lower: Lower) -> (&str, &str)
     requires { IsLower stack.now lower }
     ensures { result.0.now ++ result.1.now ≡ lower_text stack.now lower }

@@ -1,7 +1,7 @@
 //! Checked stacks of devices and disks.
 //!
-//! Soundness is the invariant of `Stack`, so callers never check it again: a value is only made by the checks of
-//! a load. A load looks up all names; afterwards everything goes by ids.
+//! Soundness is the invariant of `Stack`, so callers never check it again: only a load, with its checks, makes a
+//! `Stack`. A load looks up all names; all later code uses ids.
 
 ghost use Rattle.dm_stack.specs.Prelude.{ℕ, IfErr, IfOk, IfSome, IsTrue, OnOk, List, Option, Some, drop, is_none, length, position, take, true, Memory, Source, code, is_device_name, is_disk_name, IsMemoryFault, resolved_lines, IsLineOf, AreTops, IsFirstClash, IsThere, IsTidy, IsTop, claims, Description, described, device_len, disk_len, is_ro_at, is_same, name_at, disk_name_at, lines_at, IsDeeperByOne, IsLength, all_places, snapshots, stack_depth, AreSnapshots, IsLast, binary_digits, IsRefusedBy, IsSound, Claim, Clash, LoadFault};
 ghost use Rattle.dm_stack.specs.declared.checks.graph.TheConstants.{MOST_DEPTH};
@@ -57,32 +57,31 @@ impl Stack {
     /// 1. `Limit`: at most 1,024 devices, 1,024 disks, and 65,536 lines of all tables together, checked in this
     ///    order. The fault is at the first one too many.
     /// 2. `Limit`: no start, length, end or offset of a line is above 2^50, and then no length of a disk.
-    /// 3. `Twice`: a device with the name of an earlier one, then a disk with that of an earlier disk.
+    /// 3. `Twice`: a device with the name of an earlier device, then a disk with the name of an earlier disk.
     /// 4. `Empty`: a device without lines, or a line of length 0, then a disk of length 0.
     /// 5. `Gap`, `Overlap`: a line that starts after the end of the line before, or before that end. The first
     ///    line must start at 0.
     /// 6. `Unknown`: a line that names a device or a disk that isn't in the lists.
     /// 7. `Cycle`: the first device that names itself, directly or through other devices.
     /// 8. `Deep`: a device whose depth is above 32. A device that names no device has depth 1; any other is one
-    ///    deeper than the deepest that it names.
+    ///    deeper than the deepest device that it names.
     /// 9. `Stripe`: a striped line with fewer than 1 or more than 128 columns, a chunk below 1 or above 2^32 - 1
     ///    sectors, or a length that is not a multiple of the number of columns times the chunk.
-    /// 10. `Range`: a line that passes the end of what it names.
-    /// 11. `Snapshot`: a snapshot or an origin that is not the only line of its table, or is not as
-    ///     long as the origin that it names, or a snapshot whose chunk is no power of two from 1 to
-    ///     1,024.
-    /// 12. `Store`: a snapshot whose store is neither a disk nor a writable device of linear and
-    ///     striped lines that names nothing but disks and such devices, down to disks.
-    /// 13. `Limit`: the first snapshot at which the stores so far have room for more than 4,194,304 chunks
-    ///     together.
+    /// 10. `Range`: a line that passes the end of a device or disk that it names.
+    /// 11. `Snapshot`: a snapshot or an origin that is not the only line of its table, or is not as long as the
+    ///     origin that it names, or a snapshot whose chunk size isn't a power of two from 1 to 1,024 sectors.
+    /// 12. `Store`: a snapshot whose store is, or is above, a device that is read-only or has a line that is
+    ///     neither linear nor striped.
+    /// 13. `Limit`: the first snapshot whose store, with all earlier stores, has room for more than 4,194,304
+    ///     chunks.
     ///
-    /// A check goes over the devices in order, and over the lines of each; disks come last. `Memory`, with the
-    /// number 0, means that memory ran out, and tells nothing about the lists.
+    /// A check goes over the devices in order, and over the lines of each device; disks come last. `Memory`, with
+    /// the number 0, means that memory ran out, and tells nothing about the lists.
     ///
     /// Cost: near-linear in the lines and their columns, the devices and the disks, with memory for a copy of
     /// each name and each line, 128 to 256 bytes more for each device and each disk, and 16 KiB. Each line of an
-    /// origin takes a walk over the snapshots, with memory for those of the origin. If devices are too deep, each
-    /// takes a search of all that it reaches.
+    /// origin costs a walk over the snapshots, with memory for those of the origin. Each device that is too deep
+    /// costs a search of all devices that it reaches.
     pub fn load(
         alloc: Global,
         devices: Vec<DeviceSpec>,
@@ -98,7 +97,7 @@ impl Stack {
             → IsRefusedBy stack found → IsRefusedBy stack other → found ≡ other }
         ensures never { (stack : Description) (found : LoadFault)
             → IsSound stack → IsRefusedBy stack found → ⊥ }
-        // The limits as plain numbers.
+        // The values of the limits as plain numbers.
         ensures limits { (MOST_DEVICES ≡ 1024) × (MOST_DISKS ≡ 1024) × (MOST_LINES ≡ 65536)
             × (MOST_DEPTH ≡ 32) × (MOST_LENGTH ≡ 2 ^ 50) × (MOST_STRIPES ≡ 128) × (MOST_CHUNK + 1 ≡ 2 ^ 32)
             × (MOST_SNAPSHOT_CHUNK ≡ 1024) × (MOST_PLACES ≡ 4194304) }
@@ -143,9 +142,9 @@ impl Stack {
         }
     }
 
-    /// The device whose name is at the front of a text and ends at a space, and the length of the name: the fast
-    /// way to the device of a request. `None` says nothing about the text: near a text's end, or if another name
-    /// is similar, the name may not be found.
+    /// The device whose name is at the front of a text and ends at a space, and the length of the name. This is
+    /// the fast way to the device of a request. `None` tells nothing about the text, because near the text's end,
+    /// or if another name is similar, the name may not be found.
     ///
     /// No memory is allocated. Cost: about the same for any number of devices, and for any name of up to 15
     /// bytes.
@@ -158,13 +157,13 @@ impl Stack {
             (λ found. text.now ≡ take found.1 text.now ++ code " " ∷ drop (found.1 + 1) text.now) }
     {
         let (index, len) = self.device_names.find_in_text(text)?;
-        // Its type says that a device's name has the form of one.
+        // The type of a device's name guarantees that it has the form of a device name.
         let _name = self.devices.as_slice()[index].name.as_str();
         Some((DeviceId::new(index), len))
     }
 
-    /// Whether any device has its lines in buckets, as those with more than three lines have: only then does
-    /// `starts_ahead` read anything. Cost: linear in the devices.
+    /// Whether any device has its lines in buckets, which requires more than three lines. If none has,
+    /// `starts_ahead` reads nothing. Cost: linear in the devices.
     pub fn has_buckets(&self) -> bool {
         self.found
             .as_slice()
@@ -172,11 +171,11 @@ impl Stack {
             .any(|device| device.table.has_buckets())
     }
 
-    /// A number computed from the starts of the lines that a look-up of this sector begins with, if the device's
-    /// lines are in buckets. Calling this brings what the look-up reads first into the cache.
+    /// A number computed from the starts of the lines that a look-up of this sector reads first, if the device's
+    /// lines are in buckets. The call prefetches these lines.
     ///
     /// The number itself means nothing. The call reads the index of a bucket's first line, and up to four lines
-    /// from there on; it compares none of them and counts nothing. No memory is allocated.
+    /// from that line on; it compares no line and counts nothing. No memory is allocated.
     #[inline(always)]
     pub fn starts_ahead(&self, device: DeviceId, sector: u64) -> Option<u64> {
         self.found
@@ -237,8 +236,8 @@ impl Stack {
         self.disks.as_slice().len()
     }
 
-    /// The greatest depth of any device, or 0 if there are none. A device is one deeper than the deepest of what
-    /// it names; a disk's depth is 0.
+    /// The greatest depth of any device, or 0 if there are none. A device is one deeper than the deepest device
+    /// or disk that it names; a disk's depth is 0.
     pub fn depth(&self) -> u32
         ensures depth { result ≡ stack_depth self.now }
         // Every value of type `Stack` is sound.
@@ -266,7 +265,7 @@ impl Stack {
         self.found(device).ro
     }
 
-    /// Whether no line of the stack names the device, so that nothing claims any of it.
+    /// Whether no line of the stack names the device, so that no claim is on it.
     ///
     /// No memory is allocated. Cost: linear in the lines of the stack and their columns.
     pub fn is_top(&self, device: DeviceId) -> bool
@@ -276,7 +275,7 @@ impl Stack {
         !is_named(&self.resolved(), device)
     }
 
-    /// For each device of the stack, what `is_top` returns: whether no line names it.
+    /// For each device of the stack, whether no line names it, as `is_top` returns.
     ///
     /// Fails only when out of memory. Cost: linear in the lines of the stack and their columns, with memory for
     /// the claims.
@@ -290,11 +289,11 @@ impl Stack {
     /// Finds the first claim that clashes with an earlier one; None exactly if the stack is tidy.
     ///
     /// A linear line claims the range below it, a striped line a range for each column. A snapshot claims all of
-    /// its store and, for reading, all of its origin; an origin's line claims all of what it names, for serving
-    /// those that read it. Claims are in the order of devices, lines, and then columns, or store before origin.
-    /// Two claims clash if they have a sector of one device or disk in common, unless both read, or one reads and
-    /// the other serves. The result names the earliest claim that the first one clashes with, and the least
-    /// sector that both have.
+    /// its store and, for reading, all of its origin; an origin's line claims all of the device or disk that it
+    /// names, for serving those that read it. Claims are in the order of devices, lines, and then columns, or
+    /// store before origin. Two claims clash if they have a sector of one device or disk in common, unless both
+    /// read, or one reads and the other serves. The result names the earliest claim that the found one clashes
+    /// with, and the least sector that both include.
     ///
     /// Fails only when out of memory. Cost: sorting the claims, and a walk over them for each binary digit of
     /// their number, with memory for two copies of each.
@@ -308,7 +307,7 @@ impl Stack {
             → IsFirstClash all found → IsFirstClash all other → found ≡ other }
     {
         let claims = claims(alloc, &self.resolved())?;
-        // An unknown name would have an id equal to the count, so counts plus one are above all ids.
+        // An unknown name would have an id equal to the count, so all ids are below the count plus one.
         first_clash(
             alloc,
             &claims,
@@ -335,7 +334,7 @@ impl Stack {
         self.disks.as_slice()[disk.index()].name.as_str()
     }
 
-    /// The description together with its lines with ids.
+    /// The stack's description and its lines with ids.
     fn resolved(&self) -> Resolved<'_>
         ensures description { result ≡ self.now }
         ensures sound { IsSound self.now }
@@ -360,8 +359,8 @@ impl Stack {
     }
 
     /// The line that holds a sector, and how many starts of lines were compared with the sector. In a device of
-    /// more than three lines it is none if the sector comes right after `last`, which then becomes the line
-    /// found.
+    /// more than three lines, no start is compared if the sector is the end of `last`, and the line found becomes
+    /// `last`.
     pub(crate) fn find_line(
         &self,
         device: DeviceId,

@@ -4,13 +4,13 @@ use Rattle.dm_map.specs.own.Contents.{Values, played, played_unit, sector_after,
 use Rattle.dm_map.specs.pieces.Units.{BlockUnit, WriteOf, CopyOf, FillOf}
 use Rattle.std.specs.Prelude.{◌≡◌, ◌&&◌, ◌∷◌, ◌++◌, ◌==◌}
 
--- counting the sectors that two lists of units answer: first the one list, then the other
+-- the sector that two joined lists of units reach: the second list starts at the sector that the first one reaches
 pub past-append : (units more : List BlockUnit) (sector : ℕ) → sector_past (units ++ more) sector ≡ sector_past more (sector_past units sector)
 unfolding sector_past
 past-append [] more sector = refl
 past-append (unit ∷ units) more sector = past-append units more (sector_after unit sector)
 
--- Disks with equal values in every sector still have equal values after one and the same unit.
+-- if two sets of disks hold equal values in every sector, they still do after equal values are stored in the same sector
 
 stored_cong : {V : Type 0} (values others : Values V) (to to_sector disk sector : ℕ) (a b : V) → a ≡ b → ((k x : ℕ) → values k x ≡ others k x) → stored values to to_sector a disk sector ≡ stored others to to_sector b disk sector
 stored_cong {V = V} values others to to_sector disk sector a b e same = ap (λ (v : V). cond (disk == to && sector == to_sector) v (values disk sector)) e ∙ ap (λ (v : V). cond (disk == to && sector == to_sector) b v) (same disk sector)

@@ -1,4 +1,4 @@
--- Proofs that a list of pieces is a lawful sink. They are among the specs since the `impl Sink` imports them.
+-- Proofs that a list of pieces is a lawful sink. They are among the specs because the `impl Sink` of `PieceList` imports them.
 use Rattle.dm_map.specs.Base.{List, [], append_assoc, sym, ap, ◌∙◌, append-nil}
 use Rattle.dm_map.specs.Prelude.{BlockUnit, OfBeginning}
 use Rattle.dm_map.specs.pieces.PieceList.{PieceListView, Appends, units_of_all}

@@ -1,4 +1,4 @@
--- What a power cut may leave: sectors without data may hold anything, and a kernel may have copied and listed chunks before the write that needs them (its dm-snap copies first, then lists, then writes).
+-- What a power cut may leave: sectors without data may hold anything, and a kernel may have copied and listed chunks before the write that needs them (dm-snap copies a chunk first, then lists the chunk, then writes).
 use Rattle.dm_map.specs.Base.{ℕ, List, [], Some, length, AllByRecursion, ResolvedSnapshot, IsTidy, Description, lower_len, place}
 use Rattle.dm_map.specs.own.Contents.{Values, played}
 use Rattle.dm_map.specs.own.Lists.{IsListSector}
@@ -13,7 +13,7 @@ use Rattle.std.specs.Prelude.{◌≡◌, ◌/◌, ◌<◌, ◌∷◌}
 
 -- Sectors without data
 
--- a disk sector of a snapshot's store in which no taken chunk is kept: either part of the store's list, or never read
+-- a disk sector of a snapshot's store that holds no part of a taken chunk, so it is part of the store's list or is never read
 pub record IsSpareSector (stack : Description) (state : State) (disk sector : ℕ) : Type 0 where
   pub device : ℕ
   pub snapshot : ResolvedSnapshot
@@ -23,7 +23,7 @@ pub record IsSpareSector (stack : Description) (state : State) (disk sector : �
   pub free : (number : ℕ) → number < length (taken_at state device).chunks → at / snapshot.chunk ≡ place snapshot.kind snapshot.chunk number → ⊥
   pub home : home stack snapshot.store at ≡ record { disk = disk; sector = sector }
 
--- disks that hold equal values in all sectors but those without data
+-- two sets of disks hold equal values in all sectors except those without data
 abbrev pub HaveSameData : {V : Type 0} → Description → State → (values others : Values V) → Type 0
 HaveSameData stack state values others = (disk sector : ℕ) → (IsSpareSector stack state disk sector → ⊥) → others disk sector ≡ values disk sector
 
@@ -40,10 +40,10 @@ take_chunks stack (one ∷ later) state = and_then (take_chunk stack one.snapsho
 
 -- if no claims clash, each sector of a top device still reads as last written through it, or as an error, after a power cut
 pub record AreCutAlone (V : Type 0) (stack : Description) : Type 0 where
-  -- sectors without data may change freely
+  -- the values of sectors without data may change in any way
   pub spare : (zeros : V) (state : State) (values others : Values V) (rows : Rows V) → IsTidy stack → AreOwn zeros stack state values rows → HaveSameData stack state values others → AreOwn zeros stack state others rows
-  -- sectors of lists are sectors without data
+  -- every sector of a store's list is a sector without data
   pub lists : (state : State) (disk sector : ℕ) → IsListSector stack disk sector → IsSpareSector stack state disk sector
-  -- chunks may be taken ahead of writes, any of them in any order: copied and listed, or the snapshot listed as lost
+  -- any chunks may be taken ahead of writes, in any order: each is copied and listed, or its snapshot becomes lost
   pub ahead : (zeros : V) (written : ℕ → V) (state : State) (sector : ℕ) (chunks : List Due) (values : Values V) (rows : Rows V) → IsTidy stack → AllByRecursion (IsOfSnapshot stack) chunks → AreOwn zeros stack state values rows
       → AreOwn zeros stack (take_chunks stack chunks state).state (played zeros written sector (take_chunks stack chunks state).units values) rows

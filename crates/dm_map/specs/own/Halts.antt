@@ -1,4 +1,4 @@
--- A request that is halted after some of its units: the units done by then, and the state that it leaves.
+-- A request that is halted after some of its units: the units done before the halt, and the state after it.
 use Rattle.dm_map.specs.Base.{ℕ, List, nat_lt, take, Op, Device, Description, device_len, MOST_DEPTH}
 use Rattle.dm_map.specs.own.Contents.{sector_past}
 use Rattle.dm_map.specs.walk.Mapping.{request_step, sector_step}
@@ -17,7 +17,7 @@ state_past stack op device start len sectors state =
 abbrev pub halted_units : Description → Op → (device start len count : ℕ) → State → List BlockUnit
 halted_units stack op device start len count state = take count (request_step stack op device start len state).units
 
--- the state after those sectors of which all units were done; the last unit of a sector answers it, and no other does (clause `own` of `tops_are_alone`, `IsOwnWrite`, says so for writes; a read has one unit)
+-- the state after the sectors of which all units were done; only the last unit of a sector answers the sector (clause `own` of `tops_are_alone`, `IsOwnWrite`, states this for writes, and a read has one unit)
 abbrev pub halted_state : Description → Op → (device start len count : ℕ) → State → State
 halted_state stack op device start len count state =
     state_past stack op device start len (sector_past (halted_units stack op device start len count state) 0) state

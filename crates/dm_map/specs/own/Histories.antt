@@ -8,7 +8,7 @@ use Rattle.dm_map.specs.state.State.{State}
 use Rattle.dm_map.specs.walk.Mapping.{request_step}
 use Rattle.dm_map.specs.walk.Steps.{Step}
 
--- a request to a device, with the value that it writes to each sector, and the number of units after which it is halted, if it is
+-- a request to a device, the value that it writes to each sector, and, if the request is halted, the number of units done before
 pub record Asked (V : Type 0) : Type 0 where
   pub op : Op
   pub device : ℕ
@@ -21,7 +21,7 @@ pub record Asked (V : Type 0) : Type 0 where
 abbrev pub asked_step : {V : Type 0} → Description → Asked V → State → Step
 asked_step stack asked state = request_step stack asked.op asked.device asked.start asked.len state
 
--- the units that are done: all, or the first count of them
+-- the units that are done: all of them or, for a halted request, the first `count`
 abbrev pub played_of : Option ℕ → List BlockUnit → List BlockUnit
 played_of None units = units
 played_of (Some count) units = take count units
@@ -30,7 +30,7 @@ played_of (Some count) units = take count units
 abbrev pub asked_units : {V : Type 0} → Description → Asked V → State → List BlockUnit
 asked_units stack asked state = played_of asked.halted_after (asked_step stack asked state).units
 
--- the state after a request: that after all its sectors, or after those of which all units were done
+-- the state after a request: after all its sectors or, if it is halted, after the sectors of which all units were done
 abbrev pub left_state : {V : Type 0} → Description → Option ℕ → Asked V → State → State
 left_state stack None asked state = (asked_step stack asked state).state
 left_state stack (Some count) asked state = halted_state stack asked.op asked.device asked.start asked.len count state
@@ -41,11 +41,11 @@ pub record Moment (V : Type 0) : Type 0 where
   pub state : State
   pub rows : Rows V
 
--- each sector of a top device reads as its row says, or as an error
+-- each sector of a top device reads as the value in its row, or as an error
 abbrev pub IsOwnAt : {V : Type 0} → (zeros : V) → Description → Moment V → Type 0
 IsOwnAt zeros stack moment = AreOwn zeros stack moment.state moment.values moment.rows
 
--- the moment after a request, which is completed, or halted after some units
+-- the moment after a request that is completed, or halted after some of its units
 abbrev pub after_played : {V : Type 0} → (zeros : V) → Description → Option ℕ → Asked V → Moment V → Moment V
 after_played zeros stack stop asked moment = record {
   values = played zeros asked.written asked.start (played_of stop (asked_step stack asked moment.state).units) moment.values;

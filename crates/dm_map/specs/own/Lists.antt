@@ -1,4 +1,4 @@
--- Where exception stores keep their lists, and that requests to top devices neither read nor write there.
+-- Where exception stores keep their lists, and the law that requests to top devices neither read nor write these lists.
 use Rattle.dm_map.specs.Base.{ℕ, true, Some, Op, Device, ResolvedSnapshot, IsTidy, IsTop, Description, lower_len, is_metadata}
 use Rattle.dm_map.specs.own.Contents.{Values, played}
 use Rattle.dm_map.specs.own.Halts.{halted_units}
@@ -21,7 +21,7 @@ pub record IsListSector (stack : Description) (disk sector : ℕ) : Type 0 where
   pub list : is_metadata snapshot.kind snapshot.chunk (at / snapshot.chunk) ≡ true
   pub home : home stack snapshot.store at ≡ record { disk = disk; sector = sector }
 
--- disks that hold equal values in all sectors of stores' lists
+-- two sets of disks hold equal values in all sectors of stores' lists
 abbrev pub HaveSameLists : {V : Type 0} → Description → (values others : Values V) → Type 0
 HaveSameLists stack values others = (disk sector : ℕ) → IsListSector stack disk sector → others disk sector ≡ values disk sector
 

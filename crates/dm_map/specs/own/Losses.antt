@@ -11,24 +11,24 @@ use Rattle.std.specs.Prelude.{◌≡◌, ◌⊎◌, ◌+◌, ◌-◌, ◌/◌, �
 
 -- Due chunks: those that a write takes before it writes, unless they are settled
 
--- a chunk of a snapshot that a write takes first, by the device that the snapshot is
+-- a chunk that a write takes before it writes: the device id of its snapshot, the snapshot, and the number of the chunk
 pub record Due : Type 0 where
   pub device : ℕ
   pub snapshot : ResolvedSnapshot
   pub chunk : ℕ
 
--- the chunks with this sector of an origin, one for each of its snapshots
+-- the chunks that contain this sector of an origin, one for each of the origin's snapshots
 abbrev pub due_over : List ResolvedOver → (sector : ℕ) → List Due
 due_over over sector = map (λ one. record { device = one.device; snapshot = one.snapshot; chunk = sector / one.snapshot.chunk }) over
 
--- the due chunks of a write at a distance into a line with this target: a snapshot's own chunk, unless the write is refused; for an origin those of its snapshots, and then those below
+-- the due chunks of a write at a distance into a line with this target: for a snapshot its own chunk, unless the write is refused; for an origin the chunks of its snapshots, and then the due chunks of the write below
 abbrev pub due_at_target : Description → State → (device : ℕ) → ResolvedTarget → (distance : ℕ) → (Lower → State → ℕ → List Due) → List Due
 due_at_target stack state device (Snapshot snapshot) distance next =
     if is_refused stack snapshot (taken_at state device) (distance / snapshot.chunk) then [] else record { device = device; snapshot = snapshot; chunk = distance / snapshot.chunk } ∷ []
 due_at_target stack state device (Origin origin) distance next = due_over origin.over distance ++ next origin.to (serve stack origin.over distance state).state distance
 due_at_target stack state device target distance next = by_below (below_plain target distance) [] [] (λ to sector. next to state sector)
 
--- the due chunks of a write to a sector of a device, by the line that holds the sector
+-- the due chunks of a write to a sector of a device, given the line that holds the sector
 abbrev pub due_at_line : Description → State → (device : ℕ) → Option ResolvedLine → (sector : ℕ) → (Lower → State → ℕ → List Due) → List Due
 due_at_line stack state device (Some line) sector next = due_at_target stack state device line.target (sector - line.start) next
 due_at_line stack state device None sector next = []
@@ -46,26 +46,26 @@ due stack state lower sector = due_in stack MOST_DEPTH lower state sector
 
 -- Snapshots that are lost
 
--- the origin reads with an error in one of the chunk's sectors
+-- a read of the origin fails in one of the chunk's sectors
 pub record HasError (stack : Description) (state : State) (one : Due) : Type 0 where
   pub sector : ℕ
   pub from : first_of one.snapshot one.chunk ≤ sector
   pub before : sector < first_of one.snapshot one.chunk + count_of stack one.snapshot one.device one.chunk
   pub fails : read stack state one.snapshot.origin sector ≡ Fails
 
--- the due chunk makes this snapshot lost: the snapshot is valid and hasn't taken the chunk, and its store is full or the origin has an error in the chunk
+-- taking the due chunk makes this snapshot lost: the snapshot is valid and hasn't taken the chunk yet, and its store is full or a read of the origin fails in the chunk
 pub record IsLosing (stack : Description) (state : State) (device : ℕ) (one : Due) : Type 0 where
   pub of : one.device ≡ device
   pub valid : (taken_at state device).valid ≡ true
   pub fresh : number_in one.chunk (taken_at state device).chunks ≡ None
   pub why : (has_place stack one.snapshot (length (taken_at state device).chunks) ≡ false) ⊎ HasError stack state one
 
--- one of these due chunks, taken in this order, makes the snapshot lost
+-- if these due chunks are taken in this order, one of them makes the snapshot lost
 abbrev pub AreLosing : Description → State → (device : ℕ) → List Due → Type 0
 AreLosing stack state device [] = ⊥
 AreLosing stack state device (one ∷ later) = IsLosing stack state device one ⊎ AreLosing stack (take_chunk stack one.snapshot one.device one.chunk state).state device later
 
--- the write of one of the first sectors of a request makes the snapshot lost; the request lies within its device
+-- the request lies within its device, and the write of one of its first sectors makes the snapshot lost
 pub record IsLostIn (stack : Description) (state : State) (device : ℕ) (op : Op) (asked start len sectors : ℕ) : Type 0 where
   pub inside : start + len ≤ device_len stack asked
   pub at : ℕ

@@ -1,4 +1,4 @@
--- Each top device keeps its data apart, whatever is requested of the others.
+-- Requests to other devices never change the data of a top device.
 use Rattle.dm_map.specs.Base.{ℕ, Op, IsTidy, IsTop, Description}
 use Rattle.dm_map.specs.own.Contents.{Values, played, sector_past}
 use Rattle.dm_map.specs.own.Halts.{halted_state, halted_units}
@@ -7,7 +7,7 @@ use Rattle.dm_map.specs.state.State.{State, start_state}
 use Rattle.dm_map.specs.walk.Mapping.{request_step}
 use Rattle.std.specs.Prelude.{◌≤◌}
 
--- if no claims clash, each sector of a top device reads as last written through it, or as an error: at the start, after a request, and after its first units, which complete no more sectors than the request has
+-- if no claims clash, each sector of a top device reads as last written through it, or as an error: at the start, after a request, and after a request's first units, which answer no more sectors than the request has
 pub record AreAlone (V : Type 0) (stack : Description) : Type 0 where
   pub start : (zeros : V) (values : Values V) → AreOwn zeros stack (start_state stack) values (first_rows zeros stack values)
   pub request : (zeros : V) (written : ℕ → V) (op : Op) (state : State) (top start len : ℕ) (values : Values V) (rows : Rows V) → IsTidy stack → IsTop stack top → AreOwn zeros stack state values rows

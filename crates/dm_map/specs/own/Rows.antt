@@ -1,4 +1,4 @@
--- Rows: what each device would hold if it had a disk of its own, which only its own writes change.
+-- Rows: what each device would hold if it had a disk of its own that only its own writes change.
 use Rattle.dm_map.specs.Base.{ℕ, List, [], Option, Some, Device, IsTop, Description}
 use Rattle.dm_map.specs.own.Contents.{Values, Stays, content, sector_after, stored}
 use Rattle.dm_map.specs.state.Fitting.{IsFitting}
@@ -20,15 +20,15 @@ unfoldable pub rows_played : {V : Type 0} → (written : ℕ → V) → (device 
 rows_played written device sector [] rows = rows
 rows_played written device sector (unit ∷ units) rows = rows_played written device (sector_after unit sector) units (row_unit (written sector) device sector unit rows)
 
--- the rows that devices have in a state: what each of their sectors reads as
+-- the rows of all devices in a state: the value that each sector reads as
 abbrev pub rows_in : {V : Type 0} → (zeros : V) → Description → State → Values V → Rows V
 rows_in zeros stack state values device sector = content zeros stack state values (Device device) sector
 
--- the rows that devices have before the first request
+-- the rows of all devices before the first request
 abbrev pub first_rows : {V : Type 0} → (zeros : V) → Description → Values V → Rows V
 first_rows zeros stack = rows_in zeros stack (start_state stack)
 
--- each sector of a top device reads as its row says, or as an error
+-- each sector of a top device reads as the value in its row, or as an error
 pub record AreOwn {V : Type 0} (zeros : V) (stack : Description) (state : State) (values : Values V) (rows : Rows V) : Type 0 where
   pub fits : IsFitting stack state
   pub tops : (top sector : ℕ) → IsTop stack top → Stays (rows top sector) (content zeros stack state values (Device top) sector)

@@ -2,7 +2,7 @@
 use Rattle.dm_map.specs.Prelude.{ℕ, List, flat_map, Description, Piece, BlockUnit, units_of}
 use Rattle.std.specs.Prelude.{◌≡◌, ◌++◌}
 
--- the stack whose disks the pieces lie on, the pieces kept so far, and how many pieces could not be kept
+-- what contracts see of the list: the stack whose disks the pieces lie on, the pieces kept so far, and how many pieces could not be kept
 pub record PieceListView : Type 0 where
   pub stack : Description
   pub pieces : List Piece

@@ -1,4 +1,4 @@
--- Units, the operations on single sectors; the units of a piece, and when a piece lies within the disks.
+-- Units, which are operations on single sectors; the units of a piece; and whether a piece lies within the disks of a stack.
 use Rattle.dm_map.specs.Base.{ℕ, zero, suc, List, [], length, Op, Disk, ResolvedTarget, Description, disk_len, Below, Lies, below_plain, LegsView, Piece, Read, Write}
 use Rattle.dm_map.specs.declared.pieces.piece.Piece.TheVariants as pieces
 use Rattle.std.specs.Prelude.{◌+◌, ◌<◌, ◌≤◌, ◌∷◌}
@@ -13,7 +13,7 @@ pub data BlockUnit : Type 0 where
   CopyOf : (disk sector to to_sector : ℕ) → BlockUnit
   FillOf : (disk sector : ℕ) → BlockUnit
 
--- the unit that continues this one: of the same kind, on the same disks, one sector further
+-- the unit that continues another one: of the same kind, on the same disks, one sector further
 abbrev pub next_unit : BlockUnit → BlockUnit
 next_unit (ReadOf disk sector) = ReadOf disk (suc sector)
 next_unit (WriteOf disk sector) = WriteOf disk (suc sector)
@@ -23,7 +23,7 @@ next_unit Fails = Fails
 next_unit (CopyOf disk sector to to_sector) = CopyOf disk (suc sector) to (suc to_sector)
 next_unit (FillOf disk sector) = FillOf disk (suc sector)
 
--- len units, each one sector further than the one before
+-- len units from a first one on, each one sector further than the unit before
 abbrev pub units_in : BlockUnit → ℕ → List BlockUnit
 units_in unit zero = []
 units_in unit (suc len) = unit ∷ units_in (next_unit unit) len
@@ -33,12 +33,12 @@ abbrev pub disk_unit : Op → (disk sector : ℕ) → BlockUnit
 disk_unit Read disk sector = ReadOf disk sector
 disk_unit Write disk sector = WriteOf disk sector
 
--- the read or the write of the sector below, if that is on a disk; else an error
+-- the read or the write of the sector below, or an error if that sector isn't on a disk
 abbrev pub below_unit : Op → Below → BlockUnit
 below_unit op (Lies (Disk disk) sector) = disk_unit op disk sector
 below_unit op _ = Fails
 
--- the units of len sectors of a line from a distance from its start, where all of them map straight to disks
+-- the units of len sectors of a line, from a distance into the line on, if all sectors below them are on disks
 abbrev pub line_units : Op → ResolvedTarget → (distance len : ℕ) → List BlockUnit
 line_units op target distance zero = []
 line_units op target distance (suc len) = below_unit op (below_plain target distance) ∷ line_units op target (suc distance) len
@@ -86,7 +86,7 @@ pub record IsOnDisk (stack : Description) (disk start len : ℕ) : Type 0 where
   pub there : disk < length stack.disks
   pub inside : start + len ≤ disk_len stack disk
 
--- every disk of a piece is one of the stack's and has all sectors that the piece uses there
+-- every disk of a piece is in the stack, and has all sectors that the piece uses on that disk
 abbrev pub IsOnDisks : Description → Piece → Type 0
 IsOnDisks stack (pieces.Read disk start len) = IsOnDisk stack disk start len
 IsOnDisks stack (pieces.Write disk start len) = IsOnDisk stack disk start len

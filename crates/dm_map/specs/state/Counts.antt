@@ -7,7 +7,7 @@ pub record Counts : Type 0 where
   pub searches : ℕ
   pub comparisons : ℕ
 
--- the most comparisons in one search: a device has at most 65,536 lines, a count of 17 binary digits
+-- the most comparisons in one search: one for each binary digit of 65,536, the most lines that a device can have
 abbrev pub most_comparisons : ℕ
 most_comparisons = 17
 

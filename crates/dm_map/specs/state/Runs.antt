@@ -22,21 +22,21 @@ run_count chunks = runs_after None chunks
 abbrev pub no_run : Run
 no_run = record { first = 0; number = 0; len = 0 }
 
--- the run at this index, or an empty one past the end of the list
+-- the run at this index, or an empty run past the end of the list
 abbrev pub run_at : List Run → ℕ → Run
 run_at runs index = slice_index_or runs index no_run
 
--- the chunk right after the last one of a run
+-- the chunk right after the last chunk of a run
 abbrev pub end_of : Run → ℕ
 end_of run = run.first + run.len
 
--- a run isn't empty, and from its first number on, the list of taken chunks holds the run's chunks in a row
+-- the run isn't empty, and its chunks are consecutive in the list of taken chunks, from the run's first number on
 pub record IsRun (chunks : List ℕ) (run : Run) : Type 0 where
   pub some : 0 < run.len
   pub within : run.number + run.len ≤ length chunks
   pub its_own : (offset : ℕ) → offset < run.len → slice_index_or chunks (run.number + offset) 0 ≡ run.first + offset
 
--- the runs cover the list of taken chunks: each is a run of the list, every taken chunk is in one of them, and they are in rising order without overlap
+-- the runs cover the list of taken chunks: each is a run of the list, every taken chunk is in one of the runs, and the runs are in rising order without overlap
 abbrev pub AreRuns : List Run → (chunks : List ℕ) → Type 0
 AreRuns runs chunks = record {
   each : (index : ℕ) → index < length runs → IsRun chunks (run_at runs index);
@@ -50,6 +50,6 @@ pub record AreBegunBy (runs : List Run) (chunk count : ℕ) : Type 0 where
   pub from : 0 < count → (run_at runs (count - 1)).first ≤ chunk
   pub next : count < length runs → chunk < (run_at runs count).first
 
--- a chunk with this number continues a run: both the chunk and the number are the next after the run's last
+-- a chunk with this number continues the run, because the chunk and the number are each one more than the run's last
 abbrev pub GoesOn : Run → (chunk number : ℕ) → Type 0
 GoesOn run chunk number = (end_of run ≡ chunk) × (run.number + run.len ≡ number)

@@ -11,11 +11,11 @@ pub record Taken : Type 0 where
 abbrev pub none_taken : Taken
 none_taken = record { chunks = []; valid = true }
 
--- one entry for each device, by its id; the entry of a device that is not a snapshot never changes
+-- one entry for each device, at the index of its id; the entry of a device that is not a snapshot never changes
 abbrev pub State : Type 0
 State = List Taken
 
--- what the snapshot with this device id took; nothing for an id past the end
+-- the chunks that the snapshot with this device id took, and whether it is valid; `none_taken` for an id past the end
 abbrev pub taken_at : State → ℕ → Taken
 taken_at state device = slice_index_or state device none_taken
 
@@ -33,6 +33,6 @@ put = slice_set
 abbrev pub with_chunk : Taken → (chunk : ℕ) → Taken
 with_chunk taken chunk = record { chunks = taken.chunks ++ chunk ∷ []; valid = taken.valid }
 
--- the snapshot becomes invalid; the list of its chunks stays
+-- the snapshot becomes invalid, and keeps the list of its chunks
 abbrev pub lost : Taken → Taken
 lost taken = record { chunks = taken.chunks; valid = false }

@@ -4,11 +4,11 @@ use Rattle.dm_map.specs.state.Snapshots.{has_place}
 use Rattle.dm_map.specs.state.State.{State}
 use Rattle.std.specs.Prelude.{◌≡◌, ◌+◌, ◌-◌, ◌/◌}
 
--- the state that tables hold, given how to read the chunks and the validity of one table
+-- the state that tables hold, given functions that return the chunks and the validity of one table
 abbrev pub state_of : {T : Type 0} → (T → List ℕ) → (T → Bool) → List T → State
 state_of chunks valid tables = map (λ table. record { chunks = chunks table; valid = valid table }) tables
 
--- the snapshot of a target, if the target is one; a target not listed here is none
+-- the snapshot that a target is, or None for a target not listed here
 abbrev pub snapshot_of : ResolvedTarget → Option ResolvedSnapshot
 snapshot_of (Snapshot snapshot) = Some snapshot
 snapshot_of _ = None
@@ -17,7 +17,7 @@ snapshot_of _ = None
 abbrev pub snapshot_at : Description → (device : ℕ) → Option ResolvedSnapshot
 snapshot_at stack device = option_and_then (λ line. snapshot_of line.target) (found_at stack device 0)
 
--- the origin of a target, if the target is an origin; a target not listed here is none
+-- the origin that a target is, or None for a target not listed here
 abbrev pub origin_of : ResolvedTarget → Option ResolvedOrigin
 origin_of (Origin origin) = Some origin
 origin_of _ = None
@@ -26,7 +26,7 @@ origin_of _ = None
 abbrev pub origin_at : Description → (device : ℕ) → Option ResolvedOrigin
 origin_at stack device = option_and_then (λ line. origin_of line.target) (found_at stack device 0)
 
--- the store of the snapshot, if there is one, has room for the taken chunk with this number
+-- there is a snapshot, and its store has room for the taken chunk with this number
 abbrev pub room_of : Description → Option ResolvedSnapshot → (number : ℕ) → Bool
 room_of stack (Some snapshot) number = has_place stack snapshot number
 room_of stack None number = false
@@ -39,7 +39,7 @@ has_room stack device number = room_of stack (snapshot_at stack device) number
 abbrev pub device_chunks : Description → ResolvedSnapshot → (device : ℕ) → ℕ
 device_chunks stack snapshot device = (device_len stack device - 1) / snapshot.chunk + 1
 
--- a stack's tables: one for each device, each with exactly as many places as the store of the device's snapshot
+-- the tables of a stack: one for each device, with as many places as the store of the device's snapshot has room for, or none if the device isn't a snapshot
 pub record AreTables {T : Type 0} (places : T → ℕ) (stack : Description) (tables : List T) : Type 0 where
   pub count : length tables ≡ length stack.devices
   pub room : (device number : ℕ) (table : T) → slice_get tables device ≡ Some table → nat_lt number (places table) ≡ has_room stack device number

@@ -9,7 +9,7 @@ pub record WalkerView : Type 0 where
   pub state : State
   pub looked : Counts
 
--- a walker without its counts, so the part that look-ups leave unchanged
+-- a walker without its counts: the part that look-ups leave unchanged
 pub record StackState : Type 0 where
   pub stack : Description
   pub state : State

@@ -4,16 +4,16 @@ use Rattle.dm_map.specs.walk.Reads.{by_below}
 use Rattle.dm_map.specs.pieces.Units.{IsOnDisk}
 use Rattle.std.specs.Prelude.{◌≡◌, ◌+◌, ◌<◌, ◌≤◌}
 
--- a sector of a disk, which holds a store's sector
+-- a sector of a disk that holds a sector of a store
 pub record Home : Type 0 where
   pub disk : ℕ
   pub sector : ℕ
 
--- the home of a sector that lies on no disk; a store's sectors all do, since its lines are linear or striped
+-- the home of a sector that lies on no disk; a store has no sector without a disk, because its lines are all linear or striped
 abbrev pub nowhere : Home
 nowhere = record { disk = 0; sector = 0 }
 
--- the disk sector that holds a sector of a device or a disk, through at most this many levels of devices; `nowhere` if there is none
+-- the disk sector that holds a sector of a device or a disk, through at most this many levels of devices; `nowhere` if no disk sector does
 unfoldable pub home_to : Description → ℕ → Lower → ℕ → Home
 home_to stack levels (Disk disk) sector = record { disk = disk; sector = sector }
 home_to stack zero (Device device) sector = nowhere
@@ -24,7 +24,7 @@ home_to stack (suc levels) (Device device) sector =
 abbrev pub home : Description → Lower → ℕ → Home
 home stack lower sector = home_to stack MOST_DEPTH lower sector
 
--- the number of levels never changes a home, if it is at least the depth of the device
+-- a home is the same for every number of levels that is at least the depth of the device
 pub record AreHomesFreeOfLevels (stack : Description) : Type 0 where
   pub same : (device levels sector : ℕ) → device < length stack.devices → depth_of stack device ≤ levels → home_to stack levels (Device device) sector ≡ home stack (Device device) sector
 
@@ -32,7 +32,7 @@ pub record AreHomesFreeOfLevels (stack : Description) : Type 0 where
 abbrev pub GoOn : (homes : ℕ → Home) → (sector disk start len : ℕ) → Type 0
 GoOn homes sector disk start len = (i : ℕ) → i < len → homes (sector + i) ≡ record { disk = disk; sector = start + i }
 
--- the first sectors of a store's range of len lie in a row on a disk, which has them
+-- the first sectors of a range of len sectors of a store are consecutive sectors of a disk, which has all of them
 pub record IsFirstHomes (stack : Description) (store : Lower) (sector len : ℕ) (first : HomeStretch) : Type 0 where
   pub some : 1 ≤ first.len
   pub most : first.len ≤ len

@@ -7,19 +7,19 @@ use Rattle.std.specs.Prelude.{◌+◌, ◌-◌, ◌==◌, ◌&&◌, ◌∷◌, i
 
 -- The path of a sector
 
--- one step of a path: a device, the start of the line with the sector, and the chunk of a striped line or of a snapshot
+-- one step of a path: a device, the start of the line that holds the sector, and the sector's chunk if the line is striped or a snapshot
 pub record PathStep : Type 0 where
   pub device : ℕ
   pub start : ℕ
   pub chunk : Option ℕ
 
--- the step of a line and then the path below it, which is empty below zeros, errors and an invalid snapshot
+-- the step on a line, and then the path of the sector below, which is empty for zeros, errors and an invalid snapshot
 abbrev pub line_path : State → (device : ℕ) → ResolvedLine → (distance : ℕ) → (next : Lower → ℕ → List PathStep) → List PathStep
 line_path state device line distance next =
     record { device = device; start = line.start; chunk = chunk_at line.target distance }
     ∷ by_below (below_target (read_over (taken_at state device)) line.target distance) [] [] next
 
--- the path of a sector, by the line that holds it; empty if no line does
+-- the path of a sector, given the line that holds the sector; empty if no line does
 abbrev pub found_path : State → (device : ℕ) → Option ResolvedLine → (sector : ℕ) → (next : Lower → ℕ → List PathStep) → List PathStep
 found_path state device (Some line) sector next = line_path state device line (sector - line.start) next
 found_path state device None sector next = []
@@ -41,12 +41,12 @@ is_same_step step other = step.device == other.device && (step.start == other.st
 abbrev pub is_same_path : List PathStep → List PathStep → Bool
 is_same_path = pointwise is_same_step
 
--- how often the path changes between neighbours among len + 1 sectors from this one on
+-- how often the path changes from one sector to the next, among len + 1 sectors from `sector` on
 abbrev pub changes : (ℕ → List PathStep) → (sector len : ℕ) → ℕ
 changes paths sector zero = 0
 changes paths sector (suc len) = (if is_same_path (paths sector) (paths (suc sector)) then 0 else 1) + changes paths (suc sector) len
 
--- the number of stretches in len sectors: one more than the changes of path between neighbours
+-- the number of stretches in len sectors: one more than how often the path changes from one sector to the next
 abbrev pub stretches : (ℕ → List PathStep) → (sector len : ℕ) → ℕ
 stretches paths sector zero = 0
 stretches paths sector (suc len) = suc (changes paths sector len)

@@ -4,7 +4,7 @@ use Rattle.dm_map.specs.state.Snapshots.{read_over}
 use Rattle.dm_map.specs.state.State.{State, taken_at}
 use Rattle.dm_map.specs.pieces.Units.{BlockUnit, ReadOf, Zeros, Fails}
 
--- a value for a sector by what lies below it: one for zeros, one for errors, and else what next gives for the lower sector
+-- the value for what lies below a sector: `zeros` or `fails`, or what `next` returns for the sector below
 abbrev pub by_below : {X : Type 0} → Below → (zeros fails : X) → (Lower → ℕ → X) → X
 by_below (Lies to sector) zeros fails next = next to sector
 by_below IsZero zeros fails next = zeros
@@ -14,7 +14,7 @@ by_below IsError zeros fails next = fails
 abbrev pub read_below : Description → State → (device sector : ℕ) → Below
 read_below stack state device sector = below (read_over (taken_at state device)) stack device sector
 
--- the unit that the read of a sector comes to, through at most this many levels of devices
+-- the unit that the read of a sector becomes, through at most this many levels of devices
 unfoldable pub read_unit : Description → State → ℕ → Lower → ℕ → BlockUnit
 read_unit stack state levels (Disk disk) sector = ReadOf disk sector
 read_unit stack state zero (Device device) sector = Fails

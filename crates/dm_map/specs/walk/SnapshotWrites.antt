@@ -16,16 +16,16 @@ use Rattle.std.specs.Prelude.{◌-◌, ◌*◌, ◌/◌, ◌&&◌, ◌||◌, ◌
 abbrev pub first_of : ResolvedSnapshot → (chunk : ℕ) → ℕ
 first_of snapshot chunk = chunk * snapshot.chunk
 
--- the number of sectors in a chunk, which is less for the last one of a device if the device ends in it
+-- the number of sectors in a chunk, which is less than the chunk size if the device ends within the chunk
 abbrev pub count_of : Description → ResolvedSnapshot → (device chunk : ℕ) → ℕ
 count_of stack snapshot device chunk = min snapshot.chunk (device_len stack device - first_of snapshot chunk)
 
--- the list of what f gives for len consecutive sectors
+-- the list of what f returns for each of len consecutive sectors
 abbrev pub row : {X : Type 0} → (ℕ → X) → (sector len : ℕ) → List X
 row f sector zero = []
 row f sector (suc len) = f sector ∷ row f (suc sector) len
 
--- the read of a sector, with as many levels as any stack can have, so that depth plays no part
+-- the unit of a read of a sector, through at most `MOST_DEPTH` levels of devices, which are enough for any stack
 abbrev pub read : Description → State → Lower → ℕ → BlockUnit
 read stack state lower sector = read_unit stack state MOST_DEPTH lower sector
 
@@ -36,7 +36,7 @@ abbrev pub is_error : BlockUnit → Bool
 is_error Fails = true
 is_error unit = false
 
--- at least one of these units is an error
+-- at least one unit of the list is an error
 abbrev pub any_error : List BlockUnit → Bool
 any_error [] = false
 any_error (unit ∷ units) = is_error unit || any_error units
@@ -47,7 +47,7 @@ reads_all stack state lower sector len = not (any_error (row (read stack state l
 
 -- The copies of a chunk
 
--- the copy of one sector to its home in a store, by the unit that reads the sector: a disk's sector is copied, and anything else is filled with zeros
+-- the unit that copies one sector to its home in a store, given the unit that reads the sector: a disk's sector is copied; for any other unit, the home is filled with zeros
 abbrev pub copy_to : BlockUnit → Home → BlockUnit
 copy_to (ReadOf disk sector) to = CopyOf disk sector to.disk to.sector
 copy_to unit to = FillOf to.disk to.sector
@@ -62,15 +62,15 @@ copies stack state snapshot number sector len = row (λ s. copy_to (read stack s
 
 -- Taking a chunk
 
--- a write needs not take the chunk: it is taken already, or the snapshot is lost
+-- a write need not take the chunk, because the chunk is taken already or the snapshot is lost
 abbrev pub is_settled : Taken → (chunk : ℕ) → Bool
 is_settled taken chunk = not taken.valid || is_some (number_in chunk taken.chunks)
 
--- the chunk can be taken: the store has room for one more, and the origin reads without errors
+-- the chunk can be taken, because the store has room for one more and the origin reads without errors
 abbrev pub can_take : Description → State → ResolvedSnapshot → (device sector len : ℕ) → Bool
 can_take stack state snapshot device sector len = has_place stack snapshot (length (taken_at state device).chunks) && reads_all stack state snapshot.origin sector len
 
--- take a chunk: copy it to the store and list it, or lose the snapshot if there is no room or the origin has an error; nothing happens if the chunk is settled
+-- taking a chunk copies it to the store and lists it, or makes the snapshot lost if there is no room or a read of the origin fails; if the chunk is settled, nothing happens
 abbrev pub take_chunk : Description → ResolvedSnapshot → (device chunk : ℕ) → State → Step
 take_chunk stack snapshot device chunk state =
     let taken = taken_at state device in
@@ -81,16 +81,16 @@ take_chunk stack snapshot device chunk state =
 
 -- Whether a write is refused
 
--- a store of a kind that, when full, fails the write and keeps its snapshot valid
+-- the store is of the kind that, when full, fails the write and keeps its snapshot valid
 abbrev pub is_keeping : StoreKind → Bool
 is_keeping Keeping = true
 is_keeping kind = false
 
--- a write to a snapshot is refused: its store is full and of a keeping kind (which no kernel has), and the chunk is not taken yet
+-- a write to a snapshot is refused, because its store is full and of the keeping kind (which no kernel has) and the chunk is not settled
 abbrev pub is_refused : Description → ResolvedSnapshot → Taken → (chunk : ℕ) → Bool
 is_refused stack snapshot taken chunk = is_keeping snapshot.kind && (not (has_place stack snapshot (length taken.chunks)) && not (is_settled taken chunk))
 
--- The write itself
+-- Writing a sector of a snapshot
 
 -- the write of a sector at its home on a disk
 abbrev pub write_to : Home → BlockUnit
@@ -111,7 +111,7 @@ unit_in_store stack snapshot device state sector =
     let taken = taken_at state device in
     if taken.valid then write_numbered stack snapshot (number_in (sector / snapshot.chunk) taken.chunks) sector else Fails
 
--- the write of a sector of a snapshot: an error if it is refused, else the chunk is taken first if needed
+-- the write of a sector of a snapshot: an error if the write is refused; else the chunk is taken, unless it is settled, and then the sector is written
 abbrev pub write_snapshot : Description → ResolvedSnapshot → (device : ℕ) → State → (sector : ℕ) → Step
 write_snapshot stack snapshot device state sector =
     if is_refused stack snapshot (taken_at state device) (sector / snapshot.chunk) then keep (Fails ∷ []) state

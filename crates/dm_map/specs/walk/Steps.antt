@@ -9,7 +9,7 @@ pub record Step : Type 0 where
   pub units : List BlockUnit
   pub state : State
 
--- a step with these units that leaves the state as it is
+-- a step that has these units and doesn't change the state
 abbrev pub keep : List BlockUnit → State → Step
 keep units state = record { units = units; state = state }
 
@@ -17,7 +17,7 @@ keep units state = record { units = units; state = state }
 abbrev pub and_then : Step → (State → Step) → Step
 and_then step next = record { units = step.units ++ (next step.state).units; state = (next step.state).state }
 
--- the steps of len consecutive sectors, each from the state that the one before leaves
+-- the steps of len consecutive sectors, each in the state that the step before leaves
 abbrev pub steps : (State → ℕ → Step) → State → (sector len : ℕ) → Step
 steps step state sector zero = keep [] state
 steps step state sector (suc len) = and_then (step state sector) (λ after. steps step after (suc sector) len)

@@ -1,4 +1,4 @@
--- Grounds: where a stretch of sectors is read, which is a disk, zeros, or errors.
+-- Grounds: what a stretch of sectors is read from, which is a disk, zeros, or errors.
 use Rattle.dm_map.specs.Base.{ℕ, Read, Lower, Description, MOST_LENGTH}
 use Rattle.dm_map.specs.declared.walk.stretch.Ground.{Ground}
 use Rattle.dm_map.specs.declared.walk.stretch.Ground.TheVariants as grounds
@@ -18,7 +18,7 @@ ground_unit (grounds.Disk disk start) = ReadOf disk start
 ground_unit grounds.Zeros = Zeros
 ground_unit grounds.Fails = Fails
 
--- if the ground is a disk, the stack has it, and it has len sectors from there on
+-- if the ground is on a disk, the stack has that disk, and the disk has len sectors from the ground's start on
 abbrev pub IsGroundInStack : Description → Ground → (len : ℕ) → Type 0
 IsGroundInStack stack (grounds.Disk disk start) len = IsOnDisk stack disk start len
 IsGroundInStack stack grounds.Zeros len = Unit {0}
@@ -37,20 +37,20 @@ pub record IsFirst (before after : WalkerView) (reads : ℕ → Step) (len : ℕ
 abbrev pub IsFirstOf : (before after : WalkerView) (levels : ℕ) → Lower → (sector len : ℕ) → Stretch → Type 0
 IsFirstOf before after levels lower sector len stretch = IsFirst before after (range_step before.stack Read levels lower before.state sector) len stretch
 
--- the unit of the sector at this distance from the first one of a ground
+-- the unit of the sector at this distance from the first sector of a ground
 abbrev pub unit_at : Ground → (distance : ℕ) → BlockUnit
 unit_at (grounds.Disk disk start) distance = ReadOf disk (start + distance)
 unit_at grounds.Zeros distance = Zeros
 unit_at grounds.Fails distance = Fails
 
--- the first sectors of a range of a device or a disk are read in this state from this ground, one after the other
+-- in this state, the first sectors of a range of a device or a disk are read from consecutive sectors of this ground
 pub record IsFirstRead (stack : Description) (state : State) (lower : Lower) (sector len : ℕ) (first : Stretch) : Type 0 where
   pub some : 1 ≤ first.len
   pub most : first.len ≤ len
   pub units : (i : ℕ) → i < first.len → read stack state lower (sector + i) ≡ unit_at first.ground i
   pub lies : IsGroundInStack stack first.ground first.len
 
--- if the ground is a disk, its sectors up to the end are at most `MOST_LENGTH`
+-- if the ground is on a disk, its len sectors end at the sector `MOST_LENGTH` or before
 abbrev pub IsGroundNear : Ground → (len : ℕ) → Type 0
 IsGroundNear (grounds.Disk disk start) len = start + len ≤ MOST_LENGTH
 IsGroundNear grounds.Zeros len = Unit {0}

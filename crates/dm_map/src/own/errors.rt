@@ -1,4 +1,4 @@
-//! Laws of read errors: what causes them, and that there are none if every store is large enough.
+//! Laws of read errors: what causes them, and that no read fails if every store is large enough.
 
 ghost use Rattle.dm_map.specs.Prelude.{AreAlwaysExact, AreNeverLost, HaveCauses};
 
@@ -6,14 +6,14 @@ use dm_stack::Stack;
 
 /// States why reads fail and snapshots are lost, in any state of the stack, even with clashing claims. A read
 /// within its device fails exactly if its path reaches an `error` line or a lost snapshot. A snapshot is lost
-/// exactly by a write to it, or to its origin through the origin's device, that must copy a chunk but finds the
-/// store full or an unreadable sector in the chunk; a store of kind `K` can be found full only by a write to the
-/// origin. A lost snapshot stays lost. After a request, or its first sectors, the stack is in a state that it can
-/// be in. The function does nothing; its contract is the law.
+/// exactly if a write to it, or to its origin through the origin's device, must copy a chunk but finds the store
+/// full or an unreadable sector in the chunk; a store of kind `K` can be found full only by a write to the
+/// origin. A lost snapshot stays lost. After a request, or its first sectors, the state again fits the stack. The
+/// function does nothing; its contract is the law.
 pub fn errors_have_causes(stack: &Stack)
     ensures { HaveCauses stack.now }
 {
-    // The contract of `depth` says that the stack is sound.
+    // The contract of `depth` states that the stack is sound.
     stack.depth();
 }
 
@@ -25,6 +25,6 @@ pub fn nothing_is_lost<V>(stack: &Stack)
     ensures lost { AreNeverLost stack.now }
     ensures exact { AreAlwaysExact V stack.now }
 {
-    // The contract of `depth` says that the stack is sound.
+    // The contract of `depth` states that the stack is sound.
     stack.depth();
 }

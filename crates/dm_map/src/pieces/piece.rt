@@ -1,8 +1,7 @@
-//! Pieces: one operation on consecutive sectors.
+//! Pieces, each of which is one operation on consecutive sectors.
 //!
-//! A piece stands for a list of units, one for each sector, and contracts speak only of units. To add a kind of
-//! piece, add a variant here, arms in `len` and `with_len`, and a clause in each function of
-//! `specs/pieces/Units.antt`.
+//! Contracts see a piece only as a list of units, one for each sector. To add a kind of piece, add a variant
+//! here, arms in `len` and `with_len`, and a clause in each function of `specs/pieces/Units.antt`.
 
 ghost use Rattle.dm_map.specs.Prelude.{Description, disk_unit, diskless_len, first_unit, piece_len, units_in, units_of, IsOnDisk, IsOnDisks};
 ghost use Rattle.std.specs.Prelude.{◌≡◌};
@@ -10,7 +9,7 @@ ghost use Rattle.std.specs.Prelude.{◌≡◌};
 use dm_stack::DiskId;
 use dm_table::Op;
 
-/// An operation on `len` consecutive sectors of a request. Starts and lengths are in sectors of 512 bytes.
+/// An operation on `len` consecutive sectors of a request; starts and lengths are in sectors of 512 bytes.
 #[derive(Clone, Copy, Debug, PartialEq, Eq, Drop)]
 pub enum Piece {
     /// The sectors are read from a disk, from `start` on.
@@ -29,7 +28,7 @@ pub enum Piece {
     Zero {
         len: u64,
     },
-    /// What is written to the sectors is discarded.
+    /// The sectors are written, and the data is discarded.
     Drop {
         len: u64,
     },
@@ -100,8 +99,8 @@ impl Piece {
     }
 }
 
-/// The piece for a read or a write of sectors of a disk. Since the kind comes from an `if`, the sink's code, when
-/// inlined after it, needs no jump table over all kinds.
+/// The piece for a read or a write of sectors of a disk. Because the kind of piece is chosen by an `if`, an
+/// inlined sink needs no jump table over all kinds.
 pub(crate) fn disk_piece(op: Op, disk: DiskId, start: u64, len: u64) -> Piece
     ensures units { units_of result ≡ units_in (disk_unit op disk start) len }
     ensures len { piece_len result ≡ len }

@@ -1,7 +1,7 @@
 //! A sink that keeps all pieces in a list.
 //!
-//! For callers that want all pieces of a request at once, such as tests. No pieces are joined, so the list is
-//! exactly what was handed over, and its laws are the simplest that a sink can have.
+//! The list is for callers that want all pieces of a request at once, such as tests. No pieces are joined, so the
+//! list contains exactly what was handed over, and its laws are the simplest that a sink can have.
 
 ghost use Rattle.dm_map.specs.Prelude.{[]};
 ghost use Rattle.std.specs.Prelude.{◌≡◌};
@@ -31,7 +31,7 @@ impl<'s> Model for PieceList<'s> {
 }
 
 impl<'s> PieceList<'s> {
-    /// Makes an empty list for a mapper of this stack. No memory is allocated.
+    /// Makes an empty list for a mapper of this stack. Allocates no memory.
     pub fn new(alloc: Global, stack: &'s Stack) -> PieceList<'s>
         ensures stack { result.stack ≡ stack.now }
         ensures pieces { result.pieces ≡ [] }

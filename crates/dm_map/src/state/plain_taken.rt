@@ -1,7 +1,7 @@
 //! Taken chunks in a plain list, the simplest implementation of `Taken`.
 //!
-//! A look-up walks over all chunks taken so far, which suits snapshots that took few. All memory is reserved when
-//! the list is made.
+//! A look-up walks over all chunks taken so far, which suits snapshots that took few chunks. All memory is
+//! reserved when the list is made.
 
 ghost use Rattle.dm_map.specs.Prelude.{length, nat_eq, IsDistinct, IsDistinct-prop, number_in};
 ghost use Rattle.std.specs.Prelude.{◌≡◌, ◌≤◌};
@@ -68,7 +68,7 @@ impl Taken for PlainTaken {
     ghost once = { λ taken. taken.once };
 }
 
-/// The index of the first equal chunk in a list, if there is one.
+/// The index at which a chunk first occurs in a list, or None.
 fn number_of(chunks: &[u64], chunk: u64) -> Option<usize>
     ensures { result ≡ number_in chunk chunks.now }
 {

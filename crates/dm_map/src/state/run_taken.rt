@@ -1,8 +1,7 @@
-//! Taken chunks as sorted runs, which are few if many neighbouring chunks are taken in a row.
+//! Taken chunks as sorted runs, which are few if chunks are mostly taken in rising order.
 //!
-//! A run is a range of consecutive chunks that were taken one after the other, so that their numbers are
-//! consecutive, too. Runs are sorted by chunk and found by binary search; each stores the number of its first
-//! chunk.
+//! A run is a range of consecutive chunks that were taken one after the other, so their numbers are consecutive,
+//! too. Runs are sorted by chunk and found by binary search; each stores the number of its first chunk.
 
 ghost use Rattle.dm_map.specs.Prelude.{[], None, MatchBool, length, nat_eq, IsDistinct, IsDistinct-prop, binary_digits, AreBegunBy, AreRuns, GoesOn, run_at, run_count, number_in};
 ghost use Rattle.std.proofs.Props.{props};
@@ -25,7 +24,7 @@ use std::alloc::{AllocError, Global};
 /// inserts a new one, which moves all later runs. `with_places` reserves all memory.
 #[derive(Drop)]
 pub struct RunTaken {
-    /// The chunks one by one; exists for proofs only.
+    /// The chunks one by one, in the order of taking; exists for proofs only.
     chunks: GhostList<u64>,
     runs: Reserved<Run>,
     count: usize,
@@ -52,7 +51,7 @@ impl RunTaken {
     /// The number of a taken chunk, counted from 0 in the order of taking, as `find` returns it.
     ///
     /// Adds to `comparisons` how often the chunk was compared with the first chunk of a run: at most once for
-    /// each binary digit of the number of runs. The sum stays at `u64::MAX` once it gets there.
+    /// each binary digit of the number of runs. The sum stops growing at `u64::MAX`.
     pub fn find_counted(&self, chunk: u64, comparisons: &mut u64) -> Option<usize>
         ensures found { result ≡ number_in chunk (⟦<RunTaken as Taken>⟧.chunks self.now) }
         ensures more { comparisons.old ≤ comparisons.new }
@@ -91,7 +90,7 @@ fn goes_on(runs: &[Run], chunks: &GhostList<u64>, begun: usize, chunk: u64, numb
     chunk - run.first == run.len && run.number + run.len as usize == number
 }
 
-/// Takes a chunk under the next number, by lengthening a run or inserting a new one.
+/// Takes a chunk under the next number: lengthens a run or inserts a new one.
 fn take_next(runs: &mut Reserved<Run>, chunks: &GhostList<u64>, chunk: u64, number: usize)
     requires kept { AreRuns runs.old.items chunks.now.items }
     requires number { number ≡ length chunks.now.items }

@@ -1,6 +1,6 @@
-//! The tables of a mapper: for each device of a stack, the chunks that it took.
+//! The tables of a mapper: for each device of a stack, the chunks that the device took as a snapshot.
 //!
-//! All memory for taken chunks is reserved here, before the first request.
+//! All memory for taken chunks is reserved when the tables are made, before the first request.
 
 ghost use Rattle.dm_map.specs.Prelude.{ℕ, length, nat_lt, replicate, IfOk, IfSome, All, snapshots, none_taken, start_state, AreTables, has_room, snapshot_at, state_of, device_chunks};
 ghost use Rattle.std.specs.Prelude.{◌≡◌, ◌+◌, ◌<◌, ◌≤◌};
@@ -11,8 +11,8 @@ use dm_stack::{DeviceId, Looker, ResolvedTarget, place_count};
 use dm_table::Reserved;
 use std::alloc::{AllocError, Global};
 
-/// Makes an empty table for each device of the looker's stack: with as many places as its store has for a
-/// snapshot, with none for any other device. Each snapshot is looked up once.
+/// Makes an empty table for each device of the looker's stack. The table of a snapshot has as many places as its
+/// store; that of any other device has none. Each snapshot is looked up once.
 ///
 /// # Errors
 ///
@@ -52,8 +52,8 @@ fn tables_without_places<T: Taken>(alloc: Global, count: usize) -> Result<Vec<T>
     Ok(tables)
 }
 
-/// For a snapshot, the number of chunks that its store has room for, and the number of chunks in its device; 0
-/// and 0 for any other device.
+/// For a snapshot, the number of chunks that its store has room for and the number of chunks in its device; two
+/// zeros for any other device.
 fn room_of(looker: &mut Looker<'_>, device: DeviceId) -> (usize, u64)
     requires { device < length looker.old.stack.devices }
     ensures places { (number : ℕ) → nat_lt number result.0 ≡ has_room looker.old.stack device number }
@@ -62,7 +62,7 @@ fn room_of(looker: &mut Looker<'_>, device: DeviceId) -> (usize, u64)
     ensures stack { looker.new.stack ≡ looker.old.stack }
     ensures one { looker.new.searches ≤ looker.old.searches + 1 }
 {
-    // The contract of `depth` says that the stack is sound.
+    // The contract of `depth` states that the stack is sound.
     looker.depth();
     match &looker.look(device, 0).target {
         ResolvedTarget::Snapshot(snapshot) => {

@@ -1,28 +1,28 @@
 //! Taken chunks: the chunks that a snapshot's exception store holds.
 //!
-//! A mapper keeps one `Taken` for each device. Contracts see it as a list of chunks in the order in which they
-//! were taken, each at most once, with a number of places and whether the snapshot is valid. Implementations may
-//! keep this in any form; `PlainTaken` is the simplest. A chunk's index in the list, its number, determines where
-//! in the store it is.
+//! A mapper keeps one `Taken` for each device. Contracts see the chunks in the order in which they were taken,
+//! each at most once, the number of places, and whether the snapshot is valid. Implementations may keep these in
+//! any form; `PlainTaken` is the simplest. A chunk's number, its index in the list, determines where in the store
+//! the chunk is.
 
 ghost use Rattle.dm_map.specs.Prelude.{ℕ, [], Bool, true, false, List, None, is_none, length, nat_eq, IfOk, IsDistinct, number_in};
 ghost use Rattle.std.specs.Prelude.{◌≡◌, ◌<◌, ◌≤◌, ◌==◌, ◌∷◌, ◌++◌, if◌then◌else◌};
 
 use std::alloc::{AllocError, Global};
 
-/// Keeps the chunks that a snapshot took, and whether it is valid.
+/// Keeps the chunks that a snapshot took, and whether the snapshot is valid.
 pub trait Taken: Drop + Sized {
     /// The chunks, in the order in which they were taken.
     ghost chunks: { Self → List ℕ };
 
-    /// The most chunks that can be kept.
+    /// The greatest number of chunks that can be kept.
     ghost places: { Self → ℕ };
 
     /// Whether the snapshot is valid.
     ghost valid: { Self → Bool };
 
-    /// Makes an empty one for a valid snapshot, with this many places, and allocates all memory that later calls
-    /// use.
+    /// Makes an empty table for a valid snapshot, with this many places, and allocates all memory that later
+    /// calls use.
     ///
     /// # Errors
     ///
@@ -32,8 +32,8 @@ pub trait Taken: Drop + Sized {
         ensures places { IfOk result (λ taken. places taken ≡ count) }
         ensures valid { IfOk result (λ taken. valid taken ≡ true) };
 
-    /// Like `with_places`, for a snapshot with so many chunks. If it has fewer chunks than places, less memory
-    /// may be enough. Chunks past the snapshot's end can be taken nevertheless.
+    /// Like `with_places`, for a snapshot whose device has `_chunks` chunks. If there are fewer chunks than
+    /// places, less memory may be enough. Chunks past the snapshot's end can be taken nevertheless.
     ///
     /// # Errors
     ///
@@ -46,12 +46,12 @@ pub trait Taken: Drop + Sized {
         Self::with_places(alloc, count)
     }
 
-    /// The number of a chunk, counted from 0 in the order of taking; None if it isn't taken.
+    /// The number of a chunk, counted from 0 in the order of taking; None if the chunk isn't taken.
     fn find(&self, chunk: u64) -> Option<usize>
         ensures { result ≡ number_in chunk (chunks self.now) };
 
-    /// Reads the memory that `find` would read first for this chunk, so that it is in the cache by then. The
-    /// value read is returned only to keep the compiler from dropping the read; it says nothing about the chunk.
+    /// Prefetches the memory that `find` reads first for this chunk. The value read is returned only to keep the
+    /// compiler from dropping the read; it tells nothing about the chunk.
     fn prefetch(&self, _chunk: u64) -> u64 {
         0
     }
@@ -77,8 +77,8 @@ pub trait Taken: Drop + Sized {
         ensures places { places self.new ≡ places self.old }
         ensures valid { valid self.new ≡ true };
 
-    /// Takes a chunk unless it is taken already, and returns whether it took it. A place must be left, and the
-    /// snapshot must be valid.
+    /// Takes a chunk unless it is taken already, and returns whether the chunk was new. A place must be left, and
+    /// the snapshot must be valid.
     fn offer(&mut self, chunk: u64) -> bool
         requires valid { valid self.old ≡ true }
         requires room { length (chunks self.old) < places self.old }
@@ -95,7 +95,7 @@ pub trait Taken: Drop + Sized {
         true
     }
 
-    /// Makes the snapshot invalid for good; its chunks stay.
+    /// Makes the snapshot invalid for good, and keeps its chunks.
     fn invalidate(&mut self)
         ensures chunks { chunks self.new ≡ chunks self.old }
         ensures places { places self.new ≡ places self.old }

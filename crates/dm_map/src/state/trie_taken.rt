@@ -1,10 +1,10 @@
 //! Taken chunks in a trie, for snapshots that take many chunks in any order.
 //!
 //! Chunks are kept in the order in which they were taken. A look-up starts at the chunk's slot in a table,
-//! follows forks that test one bit each, and ends at the number of the only taken chunk that can be equal. To
-//! take a chunk that ends at another one's number, a fork is put there; nothing else ever moves.
+//! follows forks that test one bit each, and ends at the number of the only taken chunk that can be equal. When a
+//! new chunk's look-up ends at the number of another chunk, a fork replaces that number; nothing else ever moves.
 //!
-//! Own slots and reading ahead are here for speed alone: RESULTS.md has their gain as *chunks in slots of their
+//! Own slots and prefetching are here for speed alone: RESULTS.md lists their gain as *chunks in slots of their
 //! own*, *batches and reading ahead* and *links of a batch read in a row*. If you change them, measure random
 //! first writes before and after.
 
@@ -22,16 +22,16 @@ use crate::state::trie_taken::slots::Slots;
 use dm_table::Reserved;
 use std::alloc::{AllocError, Global};
 
-/// The most places of a trie, so that the index of every link fits into a fork.
+/// The most places of a trie; with more, the index of a link might not fit into a fork.
 const MOST_PLACES: usize = 1 << 23;
 
 /// The chunks that a snapshot took, and a trie that finds their numbers.
 ///
-/// A look-up takes at most 64 tests of a bit and one comparison. Taking a chunk takes as many tests, and writes
-/// at most four links. This holds for any chunks: those that share a slot form a tree of forks.
+/// A look-up takes at most 64 tests of a bit and one comparison. Taking a chunk needs as many tests, and writes
+/// at most four links. This holds for any chunks, because those that share a slot form a tree of forks.
 ///
-/// `with_places` or `for_chunks` reserves all memory: 16 bytes for each place, and the table. The table is
-/// written at once: 4 to 8 bytes for each place, or for each chunk of the snapshot if there are fewer. The 8
+/// `with_places` or `for_chunks` reserves all memory: 16 bytes for each place, and the table of slots. The table,
+/// 4 to 8 bytes for each place, or for each chunk of the snapshot if these are fewer, is written at once. The 8
 /// bytes for a chunk, and the 8 for a fork's links, are written only when the chunk is taken. More than 2²³
 /// places are refused as out of memory.
 #[derive(Drop)]
@@ -41,11 +41,11 @@ pub struct TrieTaken {
     links: Reserved<Link>,
     /// Which slot of the table a chunk's look-up starts at.
     slots: Slots,
-    /// The number of places, at most 2²³. In 32 bits it keeps this struct at 72 bytes, faster to index than 80.
+    /// The number of places, at most 2²³. As a `u32` it keeps the struct at 72 bytes, faster to index than 80.
     places: u32,
     valid: bool,
-    /// Whether every taken chunk is in the slot with its own number. If so, a look-up compares nothing there, and
-    /// doesn't read the list of chunks.
+    /// Whether every taken chunk is in the slot whose index is the chunk. If so, a look-up needs no comparison
+    /// and doesn't read the list of chunks.
     own_slots: bool,
     ghost reserved: { places ≤ chunks.room },
     ghost room: { slots.mask + 1 + 2 * places ≤ links.room },
@@ -70,7 +70,7 @@ impl TrieTaken {
     /// The number of a taken chunk, counted from 0 in the order of taking, as `find` returns it.
     ///
     /// Adds to `comparisons` how often the chunk was compared with a taken one, at most once, and to `bits` how
-    /// many of its bits were tested, at most 64. Each sum stays at `u64::MAX` once it gets there.
+    /// many of its bits were tested, at most 64. Each sum stops growing at `u64::MAX`.
     pub fn find_counted(&self, chunk: u64, comparisons: &mut u64, bits: &mut u64) -> Option<usize>
         ensures found { result ≡ number_in chunk (⟦<TrieTaken as Taken>⟧.chunks self.now) }
         ensures compared { comparisons.old ≤ comparisons.new }
@@ -94,7 +94,7 @@ impl TrieTaken {
         }
     }
 
-    /// The index at which a chunk's look-up ends, and how many bits it tests.
+    /// The index at which a chunk's look-up ends, and how many bits the look-up tests.
     fn end_of(&self, chunk: u64) -> (usize, u64)
         ensures at { result.0 ≡ end_of self.now.links.items self.now.slots chunk }
         ensures few { result.1 ≤ 64 }
@@ -108,7 +108,7 @@ impl TrieTaken {
         (at, tested)
     }
 
-    /// Takes a chunk that isn't in the trie, and whose look-up ends at this index with no number.
+    /// Takes a chunk whose look-up ends at this index, at an empty link.
     fn put(&mut self, at: usize, chunk: u64)
         requires room { length self.old.chunks.items < self.old.places }
         requires fresh { number_in chunk self.old.chunks.items ≡ None }
@@ -123,8 +123,8 @@ impl TrieTaken {
         self.chunks.push(chunk);
     }
 
-    /// Takes a chunk whose look-up ends at another one's number, by putting a fork there. It tests the lowest bit
-    /// in which the two chunks differ, and has a link to either number.
+    /// Takes a chunk whose look-up ends at the number of another chunk: replaces that number with a fork. The
+    /// fork tests the lowest bit in which the two chunks differ, and has a link to each of their numbers.
     fn part(&mut self, at: usize, other: u32, chunk: u64)
         requires room { length self.old.chunks.items < self.old.places }
         requires fresh { number_in chunk self.old.chunks.items ≡ None }
@@ -163,7 +163,7 @@ impl Taken for TrieTaken {
         TrieTaken::for_chunks(alloc, count, count as u64)
     }
 
-    /// Makes a table with a slot for each chunk of the snapshot, or only one for each place if there are fewer.
+    /// Makes a table with a slot for each chunk of the snapshot, or for each place if there are fewer places.
     /// Refuses more than 2²³ places as out of memory.
     fn for_chunks(alloc: Global, count: usize, chunks: u64) -> Result<TrieTaken, AllocError>
         ensures chunks { IfOk result (λ taken. ⟦<TrieTaken as Taken>⟧.chunks taken ≡ []) }
@@ -191,9 +191,9 @@ impl Taken for TrieTaken {
         self.find_counted(chunk, &mut comparisons, &mut bits)
     }
 
-    /// Reads the link at which the chunk's look-up starts, and the taken chunk or the links that it leads to.
-    /// With own slots, it doesn't look at the link: a branch that waits for one link would delay the links of
-    /// other requests.
+    /// Reads the link at which the chunk's look-up starts, and the taken chunk or the links to which that link
+    /// leads. With own slots, the link isn't decoded, because a branch that waits for one link would delay the
+    /// links of other requests.
     fn prefetch(&self, chunk: u64) -> u64 {
         let link = &self.links[self.slots.of(chunk)];
         if self.own_slots {
@@ -256,7 +256,7 @@ impl Taken for TrieTaken {
     ghost once = { λ taken. taken.once };
 }
 
-/// Makes a table of this many empty links, with room for more.
+/// Makes a table of this many empty links, with room for `room` links.
 fn slots_with_room(alloc: Global, slots: usize, room: usize) -> Result<Vec<Link>, AllocError>
     requires { slots ≤ room }
     ensures items { IfOk result (λ links. links.items ≡ replicate slots Empty) }

@@ -14,12 +14,12 @@ mod tests;
 /// The usage of a snapshot's store, in sectors of 512 bytes.
 #[derive(Clone, Copy, Debug, PartialEq, Eq, Drop)]
 pub struct Usage {
-    /// The sectors before the place of the next chunk. If a metadata area comes right before that place, this can
-    /// be more than the store's length.
+    /// The number of sectors before the place of the next chunk. If a metadata area comes right before that
+    /// place, this can be more than the store's length.
     pub allocated: u64,
     /// The length of the store in sectors.
     pub total: u64,
-    /// How many of the allocated sectors are the header and metadata areas; 0 for a transient store.
+    /// How many of the allocated sectors belong to the header and metadata areas; 0 for a transient store.
     pub metadata: u64,
     /// Whether the snapshot is valid.
     pub valid: bool,

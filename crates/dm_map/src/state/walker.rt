@@ -1,8 +1,8 @@
-//! The walker, which carries what a walk down a stack reads and changes.
+//! The walker, which carries everything that a walk down a stack reads and changes.
 //!
 //! A walk looks up lines, lengths and read-only flags of the stack, and reads and changes the state left by
-//! earlier requests. The state is a table of taken chunks for each device, by its id; the table of a device that
-//! isn't a snapshot has no places and stays empty.
+//! earlier requests. The state is a table of taken chunks for each device, at the index of its id; a device that
+//! isn't a snapshot has a table without places.
 
 ghost use Rattle.dm_map.specs.Prelude.{ℕ, true, not, None, Some, IfSome, is_none, length, IsLineOf, device_len, is_ro_at, lower_len, IsSound, counts_of, AreAdded, IsFitting, IsWithinPlaces, lost, put, with_chunk, taken_at, number_in, AreTables, has_room, state_of, stack_state};
 ghost use Rattle.dm_stack.specs.declared.checks.limits.TheConstants.{MOST_LENGTH};
@@ -60,7 +60,7 @@ impl<'s, T: Taken> Walker<'s, T> {
         Walker { looker, tables }
     }
 
-    /// How many line searches were made so far; the count stays at `u64::MAX` once it gets there.
+    /// How many line searches were made so far; the count stops growing at `u64::MAX`.
     #[inline(always)]
     pub(crate) fn searches(&self) -> u64
         ensures { result ≡ self.now.looked.searches }
@@ -146,7 +146,7 @@ impl<'s, T: Taken> Walker<'s, T> {
         self.looker.depth();
     }
 
-    /// The chunks that a snapshot took, and whether it is valid.
+    /// The chunks that a snapshot took, and whether the snapshot is valid.
     pub(crate) fn taken(&self, device: DeviceId) -> &T
         requires { device < length self.now.stack.devices }
         ensures chunks { T.chunks result.now ≡ (taken_at self.now.state device).chunks }
@@ -166,7 +166,7 @@ impl<'s, T: Taken> Walker<'s, T> {
     }
 
     /// The number of a chunk that a snapshot took, counted from 0 in the order of taking; the store has a place
-    /// for it.
+    /// for this number.
     pub(crate) fn find(&self, device: DeviceId, chunk: u64) -> Option<usize>
         requires { device < length self.now.stack.devices }
         ensures number { result ≡ number_in chunk (taken_at self.now.state device).chunks }
@@ -176,8 +176,7 @@ impl<'s, T: Taken> Walker<'s, T> {
         table.find(chunk)
     }
 
-    /// Reads the memory that a look-up of this chunk of a snapshot starts with, so that it is in the cache by
-    /// then.
+    /// Prefetches the memory that a look-up of this chunk of a snapshot reads first.
     #[inline(always)]
     pub(crate) fn prefetch(&self, device: DeviceId, chunk: u64) -> u64 {
         match self.tables.as_slice().get(device.index()) {
@@ -186,7 +185,7 @@ impl<'s, T: Taken> Walker<'s, T> {
         }
     }
 
-    /// How many chunks a snapshot took; its store has a place for each.
+    /// How many chunks a snapshot took; its store has a place for each of them.
     pub(crate) fn count(&self, device: DeviceId) -> usize
         requires { device < length self.now.stack.devices }
         ensures count { result ≡ length (taken_at self.now.state device).chunks }
@@ -222,8 +221,8 @@ impl<'s, T: Taken> Walker<'s, T> {
         table.take(chunk);
     }
 
-    /// Takes a chunk of a valid snapshot unless it is taken already, and returns whether it took it; the store
-    /// must have a place for one more.
+    /// Takes a chunk of a valid snapshot unless it is taken already, and returns whether the chunk was new; the
+    /// store must have a place for one more.
     pub(crate) fn offer(&mut self, device: DeviceId, chunk: u64) -> bool
         requires device { device < length self.old.stack.devices }
         requires valid { (taken_at self.old.state device).valid ≡ true }

@@ -1,4 +1,4 @@
-//! Cutting a range at the chunks of a snapshot, and where a chunk's sectors are read.
+//! Cuts a range at the chunks of a snapshot, and finds where a chunk's sectors are read from.
 
 ghost use Rattle.dm_map.specs.Prelude.{false, true, length, min, IfNone, IfSome, place, store_sector, taken_at, AreInChunk, AreReadAt};
 ghost use Rattle.dm_stack.specs.declared.checks.limits.TheConstants.{MOST_LENGTH};
@@ -15,7 +15,7 @@ pub(crate) struct ReadAt {
     pub(crate) sector: u64,
 }
 
-/// How many of at most `most` sectors of a snapshot, from `sector` on, are in the chunk of the first one.
+/// How many of `most` sectors of a snapshot, from `sector` on, are in the chunk that holds `sector`.
 pub(crate) fn part_of_chunk(chunk_size: ChunkSize, sector: u64, most: u64) -> u64
     ensures { result ≡ min most (chunk_size - sector % chunk_size) }
 {
@@ -32,8 +32,8 @@ pub(crate) fn store_start(snapshot: &ResolvedSnapshot, number: usize) -> u64
     place(snapshot.kind, snapshot.chunk, number as u64) * sectors
 }
 
-/// The sector of a store that holds this sector of a snapshot, whose chunk is the `number`th taken one, counted
-/// from 0.
+/// The sector of a store that holds this sector of a snapshot; the sector's chunk is the `number`th taken one,
+/// counted from 0.
 pub(crate) fn store_sector(snapshot: &ResolvedSnapshot, number: usize, sector: u64) -> u64
     requires { (place snapshot.now.kind snapshot.now.chunk number + 1) * snapshot.now.chunk
         ≤ MOST_LENGTH }
@@ -42,7 +42,7 @@ pub(crate) fn store_sector(snapshot: &ResolvedSnapshot, number: usize, sector: u
     store_start(snapshot, number) + snapshot.chunk.distance_in(sector)
 }
 
-/// Where sectors of one chunk of a snapshot are read from: the store if the chunk is taken, else the origin. None
+/// Where sectors of one chunk of a snapshot are read from: the store if the chunk is taken, else the origin; None
 /// if the snapshot is lost.
 pub(crate) fn read_at<T: Taken>(
     walker: &Walker<'_, T>,
@@ -92,7 +92,7 @@ pub(crate) fn source_of<T: Taken>(
     }
 }
 
-/// Whether `next` is read from right after `len` sectors of `source`, on the same device or disk.
+/// Whether `next` starts right after the first `len` sectors of `source`, on the same device or disk.
 #[inline(always)]
 pub(crate) fn goes_on(source: &ReadAt, len: u64, next: &ReadAt) -> bool
     requires { source.now.sector + len ≤ MOST_LENGTH }

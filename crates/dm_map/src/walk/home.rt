@@ -1,11 +1,11 @@
-//! Requests whose sectors all lie in a row on one disk, as is true of most.
+//! Requests whose sectors are all consecutive on one disk, as most are.
 //!
-//! The mapper's caller is returned the place on the disk, and so knows that the request does nothing else.
+//! The mapper returns the place on the disk, so its caller knows that the request does nothing else.
 //!
-//! This is here for speed alone, since the walk handles such requests, too: RESULTS.md has its gain as *a range
-//! that lies on one disk is returned and written at once*. Like the walk, it relies on `ResolvedTarget::leg`: a
-//! linear line on a disk has one leg. If you change it, measure small requests, and first writes, before and
-//! after.
+//! This is here for speed alone, since the walk handles these requests, too: RESULTS.md lists the gain as *a
+//! range that lies on one disk is returned and written at once*. Like the walk, it relies on
+//! `ResolvedTarget::leg`: a linear line on a disk has one leg. If you change it, measure small requests, and
+//! first writes, before and after.
 
 ghost use Rattle.dm_map.specs.Prelude.{IfSome, Disk, IsLineOf, handed, IsLegOf};
 ghost use Rattle.dm_stack.specs.declared.lines.leg.Beneath.TheVariants.{Lies};
@@ -15,14 +15,14 @@ use crate::state::taken::Taken;
 use crate::state::walker::Walker;
 use dm_stack::{Beneath, DeviceId, DiskId, Leg, Lower, ResolvedLine, ResolvedTarget};
 
-/// Where sectors lie in a row on a disk: from the sector `start` on.
+/// Where consecutive sectors are on a disk: from the sector `start` on.
 #[derive(Clone, Copy, Drop)]
 pub struct Home {
     pub disk: DiskId,
     pub start: u64,
 }
 
-/// Where sectors of a line lie in a row on a disk, if the line is linear over a disk.
+/// Where sectors of a line start on a disk, if the line is linear over that disk.
 #[inline(always)]
 pub(crate) fn home_in<T: Taken>(
     walker: &Walker<'_, T>,
@@ -63,7 +63,7 @@ fn is_on_disk(line: &ResolvedLine) -> bool {
     )
 }
 
-/// The result of a request whose operations were all handed to the sink, so that no home is returned.
+/// The result of a request whose operations were all handed to the sink, so it contains no home.
 #[inline(always)]
 pub(crate) fn handed<F>(answer: Result<(), F>) -> Result<Option<Home>, F>
     ensures { result ≡ handed answer }

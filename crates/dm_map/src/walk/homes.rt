@@ -1,6 +1,6 @@
 //! Homes: where on disks the sectors of an exception store lie.
 //!
-//! A store is made of linear and striped lines over disks, so its sectors have fixed homes, whatever was written.
+//! A store consists of linear and striped lines, down to disks, so writes never change the homes of its sectors.
 
 ghost use Rattle.dm_map.specs.Prelude.{lower_len, IsStore, AreAdded, stack_state, IsFirstHomes};
 ghost use Rattle.std.specs.Prelude.{◌≡◌, ◌+◌, ◌≤◌};
@@ -10,7 +10,7 @@ use crate::state::walker::Walker;
 use crate::walk::stretch::{Ground, first_stretch};
 use dm_stack::{DiskId, Lower, MOST_DEPTH};
 
-/// Sectors of a store that lie in a row on a disk: `len` of them, from `start` on.
+/// Consecutive sectors of a disk that hold sectors of a store: `len` sectors, from `start` on.
 #[derive(Clone, Copy, Drop)]
 pub struct HomeStretch {
     pub disk: DiskId,
@@ -18,7 +18,7 @@ pub struct HomeStretch {
     pub len: u64,
 }
 
-/// Where the first sectors of a range of a store lie in a row on a disk.
+/// The consecutive disk sectors that hold the first sectors of a range of a store.
 pub(crate) fn first_homes<T: Taken>(
     walker: &mut Walker<'_, T>,
     store: Lower,

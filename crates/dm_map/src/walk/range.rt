@@ -1,11 +1,12 @@
 //! The walk down a stack, which hands the operations on consecutive sectors to a sink.
 //!
-//! A whole range goes down together, and each line that it passes is looked up once. It is cut only where a line
-//! ends, and at chunks: of stripes; of a snapshot, unless the next chunk is read right after it; and of a written
-//! origin, if one of its snapshots has something left to do. Where the sectors of a line lie is up to its legs
-//! (`dm_stack`'s `leg`), so a new target without state needs nothing here; a target with state needs an arm of
-//! `map_leg` and a loop of its own. Contracts say which units are handed over, which state is left, and how often
-//! a read searches: at most once per level for each stretch of sectors with one path (`specs/walk/Path`).
+//! A whole range is walked at once, and each line that it passes is looked up once. The range is cut only where a
+//! line ends and at chunks: chunks of stripes; of a snapshot, unless the next chunk is read from right after; and
+//! of a written origin, if one of its snapshots has something left to do. The legs of a line (`dm_stack`'s `leg`)
+//! determine where its sectors lie, so a new target without state needs no code here; a target with state needs
+//! an arm of `map_leg` and a loop of its own. Contracts state which units are handed over, which state results,
+//! and how often a read searches: at most once per level for each stretch of sectors with one path
+//! (`specs/walk/Path`).
 
 ghost use Rattle.dm_map.specs.Prelude.{true, length, Read, Write, Device, is_striped, IsLine, Description, found_mapping, origin_mapping, range_mapping, target_mapping, IsMapped, diskless_len, piece_len, units_in, units_of, Fails, IsOnDisks, or_home, zero_unit, refuses, AreAsked, AreAskedOfOrigin, AreAskedOfSnapshot, IsHanded, HasRoomFor, IsAtLine, IsLegOf};
 ghost use Rattle.dm_stack.specs.declared.lines.resolved_line.ResolvedTarget.TheVariants.{Snapshot};
@@ -30,8 +31,8 @@ use dm_table::Op;
 /// Hands over the operations on sectors of a device or a disk, through at most this many levels of devices.
 ///
 /// Each piece covers sectors whose path down is in one line, and one chunk, of each device; chunks of a snapshot
-/// that are read in a row may share a piece. The walk ends if the sink fails. This is inlined, so that a part
-/// that lies on a disk, as most parts of stripes do, costs no call.
+/// that are read from consecutive sectors may share a piece. The walk ends if the sink fails. The function is
+/// inlined, so that a part on a disk, as most parts of stripes are, costs no call.
 #[cycle(walk)]
 #[inline(always)]
 pub(crate) fn map_range<S: Sink, T: Taken>(
@@ -53,12 +54,12 @@ pub(crate) fn map_range<S: Sink, T: Taken>(
     }
 }
 
-/// Hands over the operations on sectors of a request's device, through as many levels as there may be. If the
-/// sectors lie in a row on one disk, below one line, as is usual, nothing is handed over and the place is
-/// returned.
+/// Hands over the operations on sectors of a request's device, through as many levels as any stack can have. If
+/// the sectors are consecutive on one disk, below one line, as is usual, nothing is handed over and their place
+/// is returned.
 ///
-/// Of the walk, only the way to a snapshot is inlined here. A function that grows very large isn't inlined even
-/// if marked so, and that would happen to `write_joined` of `dm_stream`, which calls this for each request.
+/// Of the walk, only the code up to a snapshot is inlined here. A function that grows very large isn't inlined
+/// even if marked so, as would happen to `write_joined` of `dm_stream`, which calls this.
 #[inline(always)]
 pub(crate) fn map_top<S: Sink, T: Taken>(
     walker: &mut Walker<'_, T>,
@@ -91,8 +92,8 @@ pub(crate) fn map_top<S: Sink, T: Taken>(
 
 /// Hands over the operations on sectors of a device. On a read-only device, all writes fail.
 ///
-/// What lies below a line is handed on in tail position, so a range in one line uses one stack frame. This is
-/// never inlined, so that a loop that calls it has all registers.
+/// The sectors below a line are mapped by a tail call, so a range in one line uses one stack frame. The function
+/// is never inlined, so that a loop that calls it has all registers.
 #[cycle(walk)]
 #[inline(never)]
 fn map_device<S: Sink, T: Taken>(
@@ -121,8 +122,8 @@ fn map_device<S: Sink, T: Taken>(
 /// Hands over the operations on sectors of a device that allows them, line by line, starting with the line of the
 /// first sector, which is `first`.
 ///
-/// The last line, usually the only one, is handed on in tail position, so a range in one line uses one stack
-/// frame. This is never inlined, so that the code before the call has all registers.
+/// The last line, usually the only one, is mapped by a tail call, so a range in one line uses one stack frame.
+/// The function is never inlined, so that the code before the call has all registers.
 #[cycle(walk)]
 #[inline(never)]
 fn map_lines<S: Sink, T: Taken>(
@@ -156,7 +157,7 @@ fn map_lines<S: Sink, T: Taken>(
 }
 
 /// Hands over the operations on sectors of one line of a device that allows them, leg by leg, through at most
-/// this many levels of devices, counting this one.
+/// this many levels of devices, including the device of the line.
 #[cycle(walk)]
 #[inline(always)]
 fn map_line<S: Sink, T: Taken>(
@@ -188,7 +189,7 @@ fn map_line<S: Sink, T: Taken>(
 /// Hands over the operations on sectors of a striped line from a distance into the line on, leg by leg, through
 /// at most this many levels of devices below it.
 ///
-/// This is never inlined, so that its loop has all registers.
+/// The function is never inlined, so that its loop has all registers.
 #[cycle(walk)]
 #[inline(never)]
 fn map_legs<S: Sink, T: Taken>(
@@ -276,8 +277,8 @@ fn map_snapshot<S: Sink, T: Taken>(
     }
 }
 
-/// Hands over the reads of sectors of a snapshot, as many chunks at once as are read in a row. All of them fail
-/// if the snapshot is lost.
+/// Hands over the reads of sectors of a snapshot, joining chunks that are read from consecutive sectors. All
+/// sectors fail if the snapshot is lost.
 ///
 /// This is never inlined, which makes the walk through lines and stripes faster.
 #[cycle(walk)]
@@ -338,7 +339,7 @@ fn read_snapshot<S: Sink, T: Taken>(
 }
 
 /// Hands over the operations on sectors of an origin's device, through at most this many levels of devices below
-/// it. Writes first do what the origin's snapshots still need.
+/// it. Before a write, the origin's snapshots take their chunks.
 ///
 /// This is never inlined, which makes the walk through lines and stripes faster.
 #[cycle(walk)]
@@ -362,11 +363,11 @@ fn map_origin<S: Sink, T: Taken>(
     }
 }
 
-/// Hands over the writes to sectors of an origin: its snapshots take the chunk of the first sector, and then all
-/// sectors are written up to the first that needs another chunk taken.
+/// Hands over the writes to sectors of an origin: the origin's snapshots take the chunk of the first sector, and
+/// then the sectors before the first one with a chunk to take are written.
 ///
-/// After a part that was cut short, the next one may be at most twice as long, so that parts don't look again and
-/// again at everything behind them.
+/// After a part that was cut short, the next part may be at most twice as long, so that the snapshots aren't
+/// asked again and again about all later sectors.
 #[cycle(walk)]
 fn write_origin<S: Sink, T: Taken>(
     walker: &mut Walker<'_, T>,
@@ -396,8 +397,8 @@ fn write_origin<S: Sink, T: Taken>(
     Ok(())
 }
 
-/// Hands over errors for `len` sectors. This is rare, and an inlined call of the sink would take registers from
-/// all other code, so it is never inlined.
+/// Hands over errors for `len` sectors. Errors are rare, and an inlined call of the sink would take registers
+/// from all other code, so the function is never inlined.
 #[inline(never)]
 pub(crate) fn fail<S: Sink>(len: u64, sink: &mut S) -> Result<(), S::Fault>
     requires some { 1 ≤ len }
@@ -407,8 +408,8 @@ pub(crate) fn fail<S: Sink>(len: u64, sink: &mut S) -> Result<(), S::Fault>
     sink.piece(Piece::Error { len })
 }
 
-/// Hands over sectors of a zero target. This is never inlined, so that an inlined call of the sink takes no
-/// registers.
+/// Hands over sectors of a zero target. The function is never inlined, so that its call of the sink takes no
+/// registers from the caller.
 #[inline(never)]
 fn hand_zeros<S: Sink>(op: Op, len: u64, sink: &mut S) -> Result<(), S::Fault>
     requires some { 1 ≤ len }
@@ -418,7 +419,7 @@ fn hand_zeros<S: Sink>(op: Op, len: u64, sink: &mut S) -> Result<(), S::Fault>
     sink.piece(zero_piece(op, len))
 }
 
-/// Whether a device fails all requests of this kind: writes, if it is read-only.
+/// Whether a device fails all requests of this kind, because they are writes and the device is read-only.
 fn refuses<T: Taken>(walker: &Walker<'_, T>, op: Op, device: DeviceId) -> bool
     requires { device < length walker.now.stack.devices }
     ensures { result ≡ refuses walker.now.stack op device }

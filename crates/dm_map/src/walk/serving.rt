@@ -1,8 +1,8 @@
-//! The snapshots of an origin: what a write to the origin's device does before it writes.
+//! The snapshots of an origin, and what a write to the origin's device does before it writes.
 //!
-//! Each snapshot takes the chunk of the written sector, so that it keeps what the origin held. Then as many
-//! sectors are written as need no more of that: a range is cut where a snapshot has something left to do, not at
-//! the end of each chunk.
+//! Each snapshot takes the chunk of the written sector, so that it keeps what the origin held. Then all following
+//! sectors whose chunks need not be taken are written: a range is cut where a snapshot has something left to do,
+//! not at the end of each chunk.
 
 ghost use Rattle.dm_map.specs.Prelude.{OnOk, true, All, serve, AreSettled, IsLongest, IsOver, is_settled, taken_at, HasRoomFor, IsWalked};
 ghost use Rattle.dm_stack.specs.declared.checks.limits.TheConstants.{MOST_LENGTH};
@@ -15,7 +15,7 @@ use crate::walk::chunk::part_of_chunk;
 use crate::walk::take_chunk::{is_settled, take_chunk};
 use dm_stack::ResolvedOver;
 
-/// Makes each snapshot of an origin take the chunk of a sector, in the order of the snapshots.
+/// Makes each snapshot of an origin, in order, take its chunk that contains a sector.
 pub(crate) fn serve<S: Sink, T: Taken>(
     walker: &mut Walker<'_, T>,
     over: &[ResolvedOver],
@@ -37,10 +37,10 @@ pub(crate) fn serve<S: Sink, T: Taken>(
     Ok(())
 }
 
-/// How many of at most `most` sectors of an origin, from `sector` on, are in chunks that all of its snapshots
-/// have settled, up to the first that isn't. The chunk of `sector` itself must be settled.
+/// How many of `most` sectors of an origin, from `sector` on, come before the first one whose chunk isn't settled
+/// in some snapshot. The chunk of `sector` itself must be settled.
 ///
-/// Changes nothing, looks at each chunk of a snapshot at most once, and at no chunk of a lost snapshot.
+/// Changes nothing, tests each chunk of a snapshot at most once, and tests no chunk of a lost snapshot.
 pub(crate) fn settled_part<T: Taken>(
     walker: &Walker<'_, T>,
     over: &[ResolvedOver],
@@ -60,8 +60,8 @@ pub(crate) fn settled_part<T: Taken>(
     part
 }
 
-/// How many of at most `most` sectors of a snapshot, from `sector` on, are in settled chunks, up to the first
-/// that isn't. The chunk of `sector` itself must be settled.
+/// How many of `most` sectors of a snapshot, from `sector` on, come before the first one whose chunk isn't
+/// settled. The chunk of `sector` itself must be settled.
 fn settled_in<T: Taken>(walker: &Walker<'_, T>, one: &ResolvedOver, sector: u64, most: u64) -> u64
     requires over { IsOver walker.now.stack (sector + most) one.now }
     requires some { 1 ≤ most }

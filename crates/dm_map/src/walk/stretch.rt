@@ -1,8 +1,8 @@
-//! Stretches: where the first sectors of a range are read from, and how many of them in a row.
+//! Stretches: where the first sectors of a range are read from, and how many of them are consecutive there.
 //!
-//! The walk hands pieces to a sink; this follows the same legs and returns the first piece of a read, without a
-//! sink and without a loop over sectors, at the cost of one look-up for each level. It is for copies, which need
-//! to know the origin's side and the store's side at once.
+//! The walk hands pieces to a sink; `first_stretch` follows the same legs and returns the first piece of a read,
+//! without a sink and without a loop over sectors, at the cost of one look-up for each level. Copies use it
+//! because they need to know the origin's side and the store's side at once.
 
 ghost use Rattle.dm_map.specs.Prelude.{Read, IsLine, lower_len, Device, AreAdded, stack_state, IsFirst, IsFirstOf, IsFirstRead, IsGroundNear, line_step};
 ghost use Rattle.std.specs.Prelude.{◌≡◌, ◌+◌, ◌≤◌};
@@ -16,11 +16,11 @@ use dm_stack::{Beneath, DeviceId, DiskId, Leg, Lower, MOST_DEPTH, ResolvedLine};
 /// Where consecutive sectors are read from.
 #[derive(Clone, Copy, PartialEq, Eq, Drop)]
 pub enum Ground {
-    /// They are read from a disk, from `start` on.
+    /// The sectors are read from a disk, from `start` on.
     Disk { disk: DiskId, start: u64 },
-    /// They read as zeros.
+    /// The sectors read as zeros.
     Zeros,
-    /// Reading them fails.
+    /// Reading the sectors fails.
     Fails,
 }
 
@@ -33,10 +33,10 @@ pub struct Stretch {
 
 /// The first stretch of a range of a device or a disk, through at most this many levels of devices.
 ///
-/// The stretch has from one sector to all of the range. It ends at the latest where a line, or a chunk of stripes
-/// or of a snapshot, ends on the way down.
+/// The stretch has at least one sector of the range. It ends at the latest where a line, or a chunk of stripes or
+/// of a snapshot, ends on the way down.
 ///
-/// This is inlined, so that sectors of a disk, as most stores and origins are, cost no call.
+/// The function is inlined, so that sectors of a disk, on which most stores and origins are, cost no call.
 #[cycle(stretch)]
 #[inline(always)]
 pub(crate) fn first_stretch<T: Taken>(
@@ -132,7 +132,7 @@ fn line_stretch<T: Taken>(
     }
 }
 
-/// Where the first sectors of a range of a device are read from, and how many of them in a row.
+/// Where the first sectors of a range of a device are read from, and how many of them are consecutive there.
 pub(crate) fn first_read<T: Taken>(
     walker: &mut Walker<'_, T>,
     device: DeviceId,

@@ -1,10 +1,10 @@
 //! Taking a chunk, which a write to a snapshot or its origin does before it writes.
 //!
-//! A chunk that isn't taken is tested once, copied from the origin to its place in the store, and then recorded
-//! as taken. All copies are handed over before the write, so they read the old data. The test and the copies work
-//! on stretches, never on single sectors; the first stretch is looked up once for both, and a copy ends where the
-//! stretch on either side does. What is read, and where the store's sectors lie, doesn't depend on the depth at
-//! which the snapshot was reached, so look-ups use all levels.
+//! A chunk that isn't taken yet is first tested for read errors, then copied from the origin to its place in the
+//! store, and then recorded as taken. All copies are handed over before the write, so they read the old data. The
+//! test and the copies work on stretches, never on single sectors; the first stretch is looked up once for both,
+//! and a copy ends where the stretch on either side does. What is read, and where the store's sectors lie,
+//! doesn't depend on the depth at which the snapshot was reached, so look-ups use all levels.
 
 ghost use Rattle.dm_map.specs.Prelude.{Some, IfNone, IfOk, IfSome, is_some, length, false, true, Description, lower_len, IsStore, AreAdded, IsFirstHomes, AreInSnapshot, IsTakenAs, can_take, copies, copy_to, first_of, is_settled, reads_all, take_chunk, has_place, store_sector, taken_at, keep, ground_unit, IsFirstOf, IsGroundInStack, diskless_len, piece_len, units_in, units_of, IsOnDisk, IsOnDisks, stack_state, HasRoomFor, IsWalked};
 ghost use Rattle.dm_stack.specs.declared.checks.graph.TheConstants.{MOST_DEPTH};
@@ -46,7 +46,7 @@ pub(crate) fn take_chunk<S: Sink, T: Taken>(
 }
 
 /// Takes a chunk that a valid snapshot hasn't taken yet, as its `number`th, counted from 0. Returns where the
-/// first of its sectors now lie, or None if the snapshot became lost.
+/// store keeps the first sectors of the chunk, or None if the snapshot became lost.
 pub(crate) fn take_new_chunk<S: Sink, T: Taken>(
     walker: &mut Walker<'_, T>,
     device: DeviceId,
@@ -79,7 +79,7 @@ pub(crate) fn take_new_chunk<S: Sink, T: Taken>(
     Ok(Some(home))
 }
 
-/// Whether nothing is left to do for a chunk, because it is taken or the snapshot is lost.
+/// Whether nothing is left to do for a chunk, because the chunk is taken or the snapshot is lost.
 pub(crate) fn is_settled<T: Taken>(walker: &Walker<'_, T>, device: DeviceId, chunk: u64) -> bool
     requires { device < length walker.now.stack.devices }
     ensures { result ≡ is_settled (taken_at walker.now.state device) chunk }
@@ -127,8 +127,8 @@ fn first_source<T: Taken>(
 }
 
 /// Copies sectors from the start of a chunk, all of which read without an error, from the origin to the store's
-/// place for this number. `first` is the first stretch of the origin; returns the first stretch of the place in
-/// the store.
+/// place for this number. `first` is the first stretch of the chunk in the origin; returns the first stretch of
+/// its place in the store.
 fn copy_chunk<S: Sink, T: Taken>(
     walker: &mut Walker<'_, T>,
     snapshot: &ResolvedSnapshot,
@@ -174,8 +174,7 @@ fn copy_chunk<S: Sink, T: Taken>(
     }
 }
 
-/// The piece that copies the first `len` sectors of a stretch, which reads without an error, to sectors of a
-/// store.
+/// The piece that copies the first `len` sectors of a stretch without read errors to sectors of a store.
 fn copy_piece(from: &Stretch, to: &HomeStretch, len: u64) -> Piece
     requires { from.now.ground ≢ Fails }
     ensures units { units_of result

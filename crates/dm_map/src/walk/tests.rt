@@ -1,7 +1,7 @@
 //! Tests that a stretch is a prefix of the first piece that the walk hands over for a read of the same sectors.
 //!
-//! Both are proved to fit the definitions. These tests show that both are also cut in the same places, so a copy
-//! continues as long as a read does, except at chunks of a snapshot that are read in a row.
+//! Stretch and piece are both proved to fit the definitions. The tests show that both also end in the same place,
+//! so a copy is cut where a read is, except at chunks of a snapshot that a read joins.
 
 ghost use Rattle.dm_map.specs.Prelude.{lower_len};
 ghost use Rattle.std.specs.Prelude.{◌≡◌, ◌+◌, ◌≤◌};
@@ -30,8 +30,8 @@ const TABLE: &str = "a: 0 4 linear sda 10\na: 4 2 zero\na: 6 2 error\n\
 
 const DISKS: &str = "sda 16\nsdb 4\nsdc 64\nsdd 64\n";
 
-/// A write, a read after it, the length of the read's first stretch, and that of its first piece. The chunk is
-/// taken, or not, or taken only in the origin, or taken by a write to the origin's device.
+/// A write, a read after the write, the length of the read's first stretch, and the length of its first piece.
+/// The chunk is taken, or not, or taken only in the origin, or taken by a write to the origin's device.
 static AFTER_A_WRITE: [(&str, &str, u64, u64); 6] = [
     ("W s 4 1", "R s 0 16", 4, 4),
     ("W t 0 8", "R t 3 13", 5, 5),
@@ -41,7 +41,7 @@ static AFTER_A_WRITE: [(&str, &str, u64, u64); 6] = [
     ("W o 0 1", "R o 0 16", 4, 4),
 ];
 
-/// The piece of `len` sectors for a read that starts where the stretch does.
+/// The piece of `len` sectors for a read that starts where the stretch starts.
 fn piece_of(stretch: &Stretch, len: u64) -> Piece {
     match &stretch.ground {
         Ground::Disk { disk, start } => Piece::Read {
@@ -105,7 +105,7 @@ fn a_stretch_begins_the_first_piece_of_a_read(rt: HostRuntime) {
     }
 }
 
-/// The device and the range of sectors of a request's line.
+/// The device and the range of sectors that the line of a request names.
 fn sectors_of(rt: &impl Abort, stack: &Stack, line: &str) -> (Lower, u64, u64)
     ensures some { 1 ≤ result.2 }
     ensures inside { result.1 + result.2 ≤ lower_len stack.now result.0 }
@@ -118,7 +118,7 @@ fn sectors_of(rt: &impl Abort, stack: &Stack, line: &str) -> (Lower, u64, u64)
     (Lower::Device(device), start, len)
 }
 
-/// A walker in the state after this write.
+/// A walker in the state that the write of this line leaves.
 fn walker_after<'s>(
     rt: &impl Abort,
     alloc: Global,
@@ -145,7 +145,7 @@ fn walker_after<'s>(
     walker
 }
 
-/// The first piece that the walk hands over for this read.
+/// The first piece that the walk hands over for the read of this line.
 fn first_read(
     rt: &impl Abort,
     alloc: Global,

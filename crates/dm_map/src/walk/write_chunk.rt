@@ -1,8 +1,7 @@
-//! Writes to a snapshot, chunk by chunk: each chunk is looked up, or taken, once, and the result is used for all
-//! of its sectors.
+//! Writes to a snapshot, chunk by chunk: each chunk is looked up or taken once, for all of its sectors.
 //!
-//! A chunk's number determines where its sectors are in the store. Where a new chunk lies on a disk is known from
-//! its copies, so it isn't looked up again for the write.
+//! A chunk's number determines where its sectors are in the store. The copies of a new chunk already tell where
+//! it lies on a disk, so its place isn't looked up again for the write.
 
 ghost use Rattle.dm_map.specs.Prelude.{true, None, Some, length, not, lower_len, IsStore, has_place, number_in, taken_at, snapshot_at, AreAskedOfChunk, AreAskedOfSnapshot, HasRoomFor, IsSnapshotWritten, IsWalked, is_keeping, store_writes, keep};
 ghost use Rattle.std.specs.Prelude.{◌≡◌, ◌+◌, ◌/◌, ◌<◌, ◌≤◌, ◌&&◌};
@@ -19,7 +18,7 @@ use dm_table::StoreKind;
 
 /// Hands over the writes to sectors of a snapshot, chunk by chunk.
 ///
-/// This is never inlined, which makes the walk through lines and stripes faster.
+/// The function is never inlined, which makes the walk through lines and stripes faster.
 #[inline(never)]
 pub(crate) fn write_snapshot<S: Sink, T: Taken>(
     walker: &mut Walker<'_, T>,
@@ -46,7 +45,7 @@ pub(crate) fn write_snapshot<S: Sink, T: Taken>(
 }
 
 /// Hands over the writes to sectors of one chunk of a snapshot: takes the chunk if needed, and then writes the
-/// sectors in the store. All of them fail if the snapshot is lost.
+/// sectors in the store. All sectors fail if the snapshot is lost.
 fn write_chunk<S: Sink, T: Taken>(
     walker: &mut Walker<'_, T>,
     device: DeviceId,
@@ -73,7 +72,7 @@ fn write_chunk<S: Sink, T: Taken>(
 }
 
 /// Writes sectors of a chunk that a valid snapshot hasn't taken yet. If the store is full and of the kind that
-/// keeps its snapshot valid, all of them fail and nothing changes.
+/// keeps its snapshot valid, all sectors fail and nothing changes.
 fn write_new_chunk<S: Sink, T: Taken>(
     walker: &mut Walker<'_, T>,
     device: DeviceId,
@@ -125,7 +124,7 @@ fn is_refused<T: Taken>(
     matches!(snapshot.kind, StoreKind::Keeping) && walker.is_full(device)
 }
 
-/// Hands over the writes to sectors of a store, one piece for each run of them that lies in a row on a disk.
+/// Hands over the writes to sectors of a store, one piece for each run of sectors that are consecutive on a disk.
 fn write_store<S: Sink, T: Taken>(
     walker: &mut Walker<'_, T>,
     store: &Lower,

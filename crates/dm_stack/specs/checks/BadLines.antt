@@ -5,7 +5,7 @@ use Rattle.dm_stack.specs.Description.{Description}
 use Rattle.dm_stack.specs.checks.Soundness.{empty_in, has_bad_stripes, is_bad_snapshot, is_unknown, misplaced, passes_end, range, snapshot, stripe, unknown}
 use Rattle.std.specs.Prelude.{◌≡◌, ◌+◌, ◌==◌, ◌∷◌, if◌then◌else◌}
 
--- the first fault of a check: the one found earlier, or else the one of this element, if it is bad
+-- the first fault of a check: the fault found earlier if there is one, else the fault of this element if the element is bad
 abbrev pub or_bad : Option LoadFault → LoadKind → Place → (bad : Bool) → Option LoadFault
 or_bad first kind at bad = either first (if bad then Some (fault kind at) else None)
 
@@ -13,7 +13,7 @@ or_bad first kind at bad = either first (if bad then Some (fault kind at) else N
 abbrev pub no_bad_lines : BadLines
 no_bad_lines = record { empty = None; misplaced = None; unknown = None; stripe = None; range = None; snapshot = None }
 
--- the first faults once this line is checked, in a device with count lines, after a line that ends at end
+-- the first faults after the check of a line of a device with count lines, where the line before ends at `end`
 abbrev pub noted_line : Description → (count end : ℕ) → BadLines → Line → BadLines
 noted_line stack count end seen line = record {
   empty = or_bad seen.empty Empty line.at (line.len == 0);
@@ -24,22 +24,22 @@ noted_line stack count end seen line = record {
   snapshot = or_bad seen.snapshot Snapshot line.at (is_bad_snapshot stack count line.len line.target);
 }
 
--- the first faults once these lines are checked, of a device with count lines
+-- the first faults after the checks of these lines of a device with count lines
 abbrev pub noted_lines : Description → (count end : ℕ) → BadLines → List Line → BadLines
 noted_lines stack count end seen [] = seen
 noted_lines stack count end seen (line ∷ lines) = noted_lines stack count (line.start + line.len) (noted_line stack count end seen line) lines
 
--- the first faults once a device is checked: that it has no lines, and the faults of its lines
+-- the first faults after the checks of a device: a fault if the device has no lines, and the faults of its lines
 abbrev pub noted_device : Description → BadLines → DeviceSpec → BadLines
 noted_device stack seen device =
     noted_lines stack (length device.lines) 0 (record seen { empty = or_bad seen.empty Empty device.at (length device.lines == 0) }) device.lines
 
--- the first faults once these devices are checked
+-- the first faults after the checks of these devices
 abbrev pub noted_devices : Description → BadLines → List DeviceSpec → BadLines
 noted_devices stack seen [] = seen
 noted_devices stack seen (device ∷ devices) = noted_devices stack (noted_device stack seen device) devices
 
--- each fault is the first that its check finds in the stack; of the check for empty things, empty disks come later and are left out
+-- each fault is the first that its check finds in the lines of the stack; the check for empty elements finds empty disks later, so these are left out
 pub record AreFirst (stack : Description) (found : BadLines) : Type 0 where
   pub empty : found.empty ≡ first_or (flat_map empty_in stack.devices) None
   pub misplaced : found.misplaced ≡ first_or (misplaced stack) None

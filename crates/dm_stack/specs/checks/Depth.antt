@@ -20,6 +20,6 @@ abbrev pub lower_depth : Description → Lower → ℕ
 lower_depth stack (lowers.Device device) = depth_of stack device
 lower_depth stack (lowers.Disk disk) = 0
 
--- the depth of each device is one more than the greatest depth of what its lines name
+-- the depth of each device is one more than the greatest depth of the devices and disks that its lines name
 abbrev pub IsDeeperByOne : Description → Type 0
 IsDeeperByOne stack = (device : ℕ) → device < length stack.devices → depth_of stack device ≡ suc (greatest (map (lower_depth stack) (named_at stack device)))

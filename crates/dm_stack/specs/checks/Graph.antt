@@ -5,11 +5,11 @@ use Rattle.std.specs.Prelude.{◌≡◌, ◌⊎◌, ◌↔◌, ◌+◌, ◌<◌,
 
 -- Which devices name which
 
--- the graph as lists, from vectors of the indexes that each device names
+-- a graph given as vectors of the indexes that each device names, as lists
 abbrev pub links_in : List (Vec ℕ) → List (List ℕ)
 links_in links = map (λ named. named.items) links
 
--- the indexes that device d names; none for an index past the end
+-- the indexes that device d names, or an empty list if d is past the end
 abbrev pub links_of : List (List ℕ) → ℕ → List ℕ
 links_of g d = slice_index_or g d []
 
@@ -23,24 +23,24 @@ IsClosed g = (d e : ℕ) → Names g d e → e < length g
 
 -- Which devices can be reached
 
--- a path from d to e through these devices, each of which names the next
+-- the devices of the list are a path from d to e: each names the next one
 abbrev pub IsPath : List (List ℕ) → ℕ → List ℕ → ℕ → Type 0
 IsPath g d [] e = Names g d e
 IsPath g d (m ∷ ms) e = Names g d m × IsPath g m ms e
 
--- there is a path from d to e, of at least one step
+-- there is a path of at least one step from d to e
 pub record Reaches (g : List (List ℕ)) (d e : ℕ) : Type 0 where
   pub between : List ℕ
   pub path : IsPath g d between e
 
--- the first device that has a path to itself; for None, no device has one
+-- d is the first device with a path to itself; for None, there is no device with a path to itself
 abbrev pub IsFirstRing : List (List ℕ) → Option ℕ → Type 0
 IsFirstRing g (Some d) = (d < length g) × (Reaches g d d) × ((e : ℕ) → e < d → Reaches g e e → ⊥)
 IsFirstRing g None = (d : ℕ) → d < length g → Reaches g d d → ⊥
 
 -- Depths
 
--- the greatest of these numbers, or 0 if there are none
+-- the greatest number of a list, or 0 for an empty list
 abbrev pub greatest : List ℕ → ℕ
 greatest [] = 0
 greatest (x ∷ xs) = max x (greatest xs)
@@ -68,7 +68,7 @@ IsVisited visited d = slice_index_or visited d false ≡ true
 abbrev pub unvisited : List Bool → ℕ
 unvisited visited = count_by not visited
 
--- the effect of visiting all named devices: which are marked as visited now, and which wait to be looked at
+-- the effect of visiting all named devices: which devices are marked as visited afterwards, and which wait to be searched from
 pub record Visits (named : List ℕ) (before after : List Bool) (waited waits : List ℕ) : Type 0 where
   pub marks : (e : ℕ) → IsVisited after e ↔ (IsVisited before e ⊎ Contains named e)
   pub still : (e : ℕ) → Contains waited e → Contains waits e

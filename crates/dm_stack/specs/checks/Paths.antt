@@ -9,7 +9,7 @@ use Rattle.std.specs.Prelude.{◌∷◌}
 abbrev pub is_unknown_path : Description → DiskPath → Bool
 is_unknown_path stack path = is_none (position (λ disk. is_same disk.name path.disk) stack.disks)
 
--- the faults of the list: first paths for a disk that an earlier one is for, then paths for unknown disks
+-- the faults of the two checks: first of paths for a disk that an earlier path is for, then of paths for unknown disks
 abbrev pub path_faults : Description → List DiskPath → List (List LoadFault)
 path_faults stack paths =
     twice_in (λ path. path.disk) (λ path. path.at) paths

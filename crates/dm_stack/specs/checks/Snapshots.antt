@@ -13,7 +13,7 @@ abbrev pub is_snapshot : Target → Bool
 is_snapshot (targets.Snapshot origin store kind chunk) = true
 is_snapshot _ = false
 
--- at least one of these lines is a snapshot
+-- at least one line of the list is a snapshot
 abbrev pub has_snapshot : List Line → Bool
 has_snapshot lines = list_any (λ line. is_snapshot line.target) lines
 
@@ -27,7 +27,7 @@ pub record IsSnapshot (stack : Description) (device : ℕ) : Type 0 where
   pub snapshot : ResolvedSnapshot
   pub line : found_at stack device 0 ≡ Some (record { start = 0; len = device_len stack device; target = found.Snapshot snapshot })
 
--- each of these devices is a snapshot, and every device whose sector 0 is on a snapshot line is among them
+-- each device of the list is a snapshot, and the list contains every device whose sector 0 is on a snapshot line
 pub record AreSnapshots (stack : Description) (devices : List ℕ) : Type 0 where
   pub each : All (IsSnapshot stack) devices
   pub among : (device : ℕ) (line : ResolvedLine) (snapshot : ResolvedSnapshot) → found_at stack device 0 ≡ Some line → line.target ≡ found.Snapshot snapshot → Contains devices device

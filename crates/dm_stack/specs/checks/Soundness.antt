@@ -18,7 +18,7 @@ all_lines devices = flat_map (λ device. device.lines) devices
 abbrev pub line_faults : LoadKind → (Line → Bool) → Description → List LoadFault
 line_faults kind bad stack = faults_by kind (λ line. line.at) bad (all_lines stack.devices)
 
--- a fault of this kind for each bad line, where what is bad depends on the number of lines in its device
+-- a fault of this kind for each bad line, where `bad` is also given the number of lines in the line's device
 abbrev pub device_faults : LoadKind → (ℕ → Line → Bool) → Description → List LoadFault
 device_faults kind bad stack = flat_map (λ device. faults_by kind (λ line. line.at) (bad (length device.lines)) device.lines) stack.devices
 
@@ -26,7 +26,7 @@ device_faults kind bad stack = flat_map (λ device. faults_by kind (λ line. lin
 abbrev pub past : {X : Type 0} → ℕ → (X → Place) → List X → List LoadFault
 past most place xs = faults_by Limit place (λ x. true) (drop most xs)
 
--- devices past the limit, then disks past theirs, then lines past theirs
+-- a fault for each device after the first `MOST_DEVICES`, then each disk after the first `MOST_DISKS`, then each line after the first `MOST_LINES`
 abbrev pub too_many : Description → List LoadFault
 too_many stack =
     past MOST_DEVICES (λ device. device.at) stack.devices ++ past MOST_DISKS (λ disk. disk.at) stack.disks
@@ -41,11 +41,11 @@ abbrev pub is_large : Line → Bool
 is_large line =
     nat_lt MOST_LENGTH line.start || (nat_lt MOST_LENGTH line.len || (nat_lt MOST_LENGTH (line.start + line.len) || list_any is_far (spans line)))
 
--- each line ends within the limit on lengths, so ends can be computed without overflow
+-- each line ends within the limit on lengths, so computing an end never overflows
 abbrev pub HaveSmallEnds : List Line → Type 0
 HaveSmallEnds lines = All (λ line. line.start + line.len ≤ MOST_LENGTH) lines
 
--- lines with a number above the limit, then disks longer than the limit
+-- a fault for each line with a number above the limit, then for each disk longer than the limit
 abbrev pub too_large : Description → List LoadFault
 too_large stack = line_faults Limit is_large stack ++ faults_by Limit (λ disk. disk.at) (λ disk. nat_lt MOST_LENGTH disk.len) stack.disks
 
@@ -59,15 +59,15 @@ abbrev pub with_before : {X : Type 0} → List X → List (WithBefore X)
 with_before [] = []
 with_before (x ∷ xs) = record { before = []; it = x } ∷ map (λ later. record { before = x ∷ later.before; it = later.it }) (with_before xs)
 
--- an earlier element of the list has the same name
+-- an element's name is also that of an earlier element of the list
 abbrev pub is_repeated : {X : Type 0} → (X → List ℕ) → WithBefore X → Bool
 is_repeated name x = list_any (λ other. is_same (name other) (name x.it)) x.before
 
--- a fault for each element whose name an earlier one has
+-- a fault for each element that has the name of an earlier element
 abbrev pub twice_in : {X : Type 0} → (X → List ℕ) → (X → Place) → List X → List LoadFault
 twice_in name place xs = faults_by Twice (λ x. place x.it) (is_repeated name) (with_before xs)
 
--- devices with the name of an earlier device, then disks with the name of an earlier disk
+-- a fault for each device with the name of an earlier device, then for each disk with the name of an earlier disk
 abbrev pub twice : Description → List LoadFault
 twice stack =
     twice_in (λ device. device.name) (λ device. device.at) stack.devices
@@ -78,19 +78,19 @@ abbrev pub without_lines : DeviceSpec → List Line → List LoadFault
 without_lines device [] = fault Empty device.at ∷ []
 without_lines device (line ∷ lines) = []
 
--- a fault for a device without lines, or else one for each of its lines of length 0
+-- a fault if the device has no lines, else a fault for each of its lines of length 0
 abbrev pub empty_in : DeviceSpec → List LoadFault
 empty_in device = without_lines device device.lines ++ faults_by Empty (λ line. line.at) (λ line. line.len == 0) device.lines
 
--- devices without lines and lines of length 0, then disks of length 0
+-- a fault for each device without lines and each line of length 0, then for each disk of length 0
 abbrev pub empty : Description → List LoadFault
 empty stack = flat_map empty_in stack.devices ++ faults_by Empty (λ disk. disk.at) (λ disk. disk.len == 0) stack.disks
 
--- the line doesn't start where the line before it ends; the first line doesn't start at sector 0
+-- the line doesn't start where the line before it ends or, if it is the first, at sector 0
 abbrev pub is_misplaced : WithBefore Line → Bool
 is_misplaced line = not (line.it.start == end_of line.before)
 
--- a misplaced line leaves a gap if it starts after the end of the line before, else it overlaps
+-- the kind of fault of a misplaced line: a gap if it starts after the end of the line before, else an overlap
 abbrev pub misplaced_kind : WithBefore Line → LoadKind
 misplaced_kind line = if nat_lt (end_of line.before) line.it.start then Gap else Overlap
 
@@ -98,7 +98,7 @@ misplaced_kind line = if nat_lt (end_of line.before) line.it.start then Gap else
 abbrev pub misplaced_in : List Line → List LoadFault
 misplaced_in lines = map (λ line. fault (misplaced_kind line) line.it.at) (filter is_misplaced (with_before lines))
 
--- the gaps and overlaps of all devices
+-- a fault for each gap or overlap in the tables of all devices
 abbrev pub misplaced : Description → List LoadFault
 misplaced stack = flat_map (λ device. misplaced_in device.lines) stack.devices
 
@@ -115,13 +115,13 @@ is_unknown stack line = list_any (λ span. is_unknown_ref stack span.to) (spans 
 abbrev pub unknown : Description → List LoadFault
 unknown stack = line_faults Unknown (is_unknown stack) stack
 
--- a fault for each of these devices whose id is bad; ids count from this one on
+-- a fault for each of these devices whose id is bad; the first device has the given id, the next ones follow
 abbrev pub faults_by_id : LoadKind → (ℕ → Bool) → ℕ → List DeviceSpec → List LoadFault
 faults_by_id kind bad id [] = []
 faults_by_id kind bad id (device ∷ devices) =
     if bad id then fault kind device.at ∷ faults_by_id kind bad (suc id) devices else faults_by_id kind bad (suc id) devices
 
--- the depth of a device, 1 plus the greatest depth of the devices that it names; a depth above the limit is cut off at one more than the limit
+-- the depth of a device, which is 1 plus the greatest depth of the devices that it names; a depth above the limit is cut off at one more than the limit
 abbrev pub depth_of : Description → ℕ → ℕ
 depth_of stack device = depth_to (links stack) (suc MOST_DEPTH) device
 
@@ -143,7 +143,7 @@ has_bad_stripes line _ = false
 abbrev pub stripe : Description → List LoadFault
 stripe stack = line_faults Stripe (λ line. has_bad_stripes line line.target) stack
 
--- a range from offset on passes the end; without a length, it can't
+-- a range of len sectors from the offset on passes the end; a range without a length never does
 abbrev pub passes : (end offset : ℕ) → (len : Option ℕ) → Bool
 passes end offset (Some len) = nat_lt end (offset + len)
 passes end offset None = false
@@ -164,7 +164,7 @@ range stack = line_faults Range (passes_end stack) stack
 abbrev pub is_bad_chunk : ℕ → Bool
 is_bad_chunk chunk = nat_lt MOST_SNAPSHOT_CHUNK chunk || not (is_power_of_two chunk)
 
--- a snapshot or an origin that isn't the only line of its device or isn't as long as what it names as origin; or a snapshot with a bad chunk size
+-- the target is a snapshot or an origin, and its line isn't the only one of the device or isn't as long as the named origin; or the target is a snapshot with a bad chunk size
 abbrev pub is_bad_snapshot : Description → (lines len : ℕ) → Target → Bool
 is_bad_snapshot stack lines len (targets.Snapshot origin store kind chunk) =
     not (lines == 1) || (is_bad_chunk chunk || not (len == lower_len stack (lower_of stack origin)))
@@ -184,7 +184,7 @@ abbrev pub HasGoodChunk : Target → Type 0
 HasGoodChunk (targets.Snapshot origin store kind chunk) = is_bad_chunk chunk ≡ false
 HasGoodChunk _ = Unit {0}
 
--- every snapshot among these lines has a chunk size that is a power of two within the limit
+-- every snapshot line of the list has a chunk size that is a power of two within the limit
 abbrev pub HaveGoodChunks : List Line → Type 0
 HaveGoodChunks lines = All (λ line. HasGoodChunk line.target) lines
 
@@ -202,7 +202,7 @@ has_bad_store stack _ = false
 abbrev pub store : Description → List LoadFault
 store stack = line_faults Store (λ line. has_bad_store stack line.target) stack
 
--- a fault for each line at which the stores so far have room for more chunks together than the limit
+-- a fault for each line whose store, together with the stores of all earlier lines, has room for more chunks than the limit
 abbrev pub crowded : Description → List LoadFault
 crowded stack =
     faults_by Limit (λ line. line.it.at)
@@ -225,7 +225,7 @@ IsOnCycle stack device = Reaches (links stack) device device
 abbrev pub HasNoCycle : Description → Type 0
 HasNoCycle stack = (device : ℕ) → device < length stack.devices → IsOnCycle stack device → ⊥
 
--- the fault is a cycle, at the first device that is on one
+-- the fault is a cycle, at the first device that is on a cycle
 pub record IsFirstCycle (stack : Description) (found : LoadFault) : Type 0 where
   pub before : List DeviceSpec
   pub device : DeviceSpec
@@ -241,7 +241,7 @@ pub record IsSound (stack : Description) : Type 0 where
   pub acyclic : HasNoCycle stack
   pub after : first_fault (checks_after stack) ≡ None
 
--- a load refuses the stack with this fault: the first fault of the first check that finds one
+-- a load refuses the stack with this fault, which is the first fault of the first check that finds any
 pub data IsRefusedBy (stack : Description) (found : LoadFault) : Type 0 where
   Early : first_fault (checks_before stack) ≡ Some found → IsRefusedBy stack found
   OnCycle : first_fault (checks_before stack) ≡ None → IsFirstCycle stack found → IsRefusedBy stack found

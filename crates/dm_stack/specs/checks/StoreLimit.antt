@@ -10,7 +10,7 @@ use Rattle.dm_stack.specs.checks.Soundness.{all_lines, target_places}
 abbrev pub all_places : Description → ℕ
 all_places stack = sum_by (λ line. target_places stack line.target) (all_lines stack.devices)
 
--- the number of chunks that the store of this target has room for, by ids; 0 unless it is a snapshot
+-- the number of chunks that the store of a snapshot has room for; 0 for any other target
 abbrev pub places_of : Description → ResolvedTarget → ℕ
 places_of stack (found.Snapshot snapshot) = place_count snapshot.kind snapshot.chunk (lower_len stack snapshot.store)
 places_of stack _ = 0

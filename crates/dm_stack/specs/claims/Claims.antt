@@ -12,7 +12,7 @@ use Rattle.std.specs.Prelude.{◌≡◌, ◌↔◌, ◌+◌, ◌≤◌, ◌<◌,
 abbrev pub span_claim : Description → (device : ℕ) → Span → Claim
 span_claim stack device span = by_ids.span_claim stack device (by_ids.by_id stack span)
 
--- the claims of a line: its range for linear, a range for each column for striped, all of the store and (for reading) all of the origin for a snapshot, all of what it names for an origin
+-- the claims of a line: for a linear line its range, for a striped line a range for each column, for a snapshot all of the store and (for reading) all of the origin, and for an origin all of the device or disk that it names
 abbrev pub line_claims : Description → (device : ℕ) → Line → List Claim
 line_claims stack device line = map (span_claim stack device) (spans line)
 
@@ -37,7 +37,7 @@ may_share Reading Serving = true
 may_share Serving Reading = true
 may_share one other = false
 
--- both claims include the sector, and their kinds may not share it
+-- both claims include the sector, and claims of their kinds may not share a sector
 pub record MeetAt (one other : Claim) (lower : Lower) (sector : ℕ) : Type 0 where
   pub here : HasSector one lower sector
   pub there : HasSector other lower sector
@@ -55,12 +55,12 @@ IsTidy stack = AllPairs NeverMeet (claims stack)
 abbrev pub IsTop : Description → (device : ℕ) → Type 0
 IsTop stack device = All (λ claim. claim.to ≡ Device device → ⊥) (claims stack)
 
--- for each device, by id, whether it is a top device
+-- for each device, in the order of ids, whether it is a top device
 pub record AreTops (stack : Description) (tops : List Bool) : Type 0 where
   pub all : length tops ≡ length stack.devices
   pub each : (device : ℕ) → device < length stack.devices → IsTrue (slice_index_or tops device false) ↔ IsTop stack device
 
--- the clash of a list of claims: the first claim that clashes with an earlier one, the earliest claim that it clashes with, and the least sector at which the two do
+-- the clash of a list of claims: the first claim that clashes with an earlier one, the first claim that this one clashes with, and the least sector at which the two clash
 pub record IsClash (all : List Claim) (clash : Clash) : Type 0 where
   pub before : List Claim
   pub earlier : Claim
@@ -68,21 +68,21 @@ pub record IsClash (all : List Claim) (clash : Clash) : Type 0 where
   pub later : Claim
   pub after : List Claim
   pub split : all ≡ (before ++ earlier ∷ between) ++ later ∷ after
-  -- no two claims before the later one clash
+  -- no two claims of those before the later claim clash
   pub first : AllPairs NeverMeet (before ++ earlier ∷ between)
-  -- the later claim clashes with none before the earlier one
+  -- the later claim clashes with no claim before the earlier one
   pub earliest : All (λ claim. NeverMeet claim later) before
   pub meet : MeetAt earlier later clash.lower clash.sector
   pub least : (sector : ℕ) → sector < clash.sector → MeetAt earlier later clash.lower sector → ⊥
   pub of_earlier : clash.first ≡ earlier.device
   pub of_later : clash.second ≡ later.device
 
--- the clash found in a list of claims; None exactly if no two of them clash
+-- the clash found in a list of claims; None exactly if no two claims clash
 abbrev pub IsFirstClash : List Claim → Option Clash → Type 0
 IsFirstClash all (Some clash) = IsClash all clash
 IsFirstClash all None = AllPairs NeverMeet all
 
--- the device or disk is one of the stack's
+-- the stack has this device or disk
 abbrev pub IsLower : Description → Lower → Type 0
 IsLower stack (Device id) = id < length stack.devices
 IsLower stack (Disk id) = id < length stack.disks

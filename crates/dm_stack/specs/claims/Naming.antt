@@ -1,4 +1,4 @@
--- Which lines name a device, as a test that code can run.
+-- Which lines name a device, as tests that code can run.
 use Rattle.dm_stack.specs.Base.{ℕ, Bool, false, map, list_any}
 use Rattle.dm_stack.specs.declared.lines.resolved_line.ResolvedLine.{ResolvedLine}
 use Rattle.dm_stack.specs.declared.id.Lower.{Lower}

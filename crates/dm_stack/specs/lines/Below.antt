@@ -15,11 +15,11 @@ use Rattle.dm_stack.specs.lines.Over.{origin_over, resolved_snapshot, snapshots_
 use Rattle.dm_stack.specs.checks.Store.{IsStore}
 use Rattle.std.specs.Prelude.{◌+◌, ◌-◌, ◌*◌, ◌/◌, ◌%◌, ◌&&◌, ◌==◌, ◌≡◌, ◌≤◌, ◌<◌}
 
--- the sector is in the line: from its start on, before its end
+-- the sector is in the line: not before the line's start, and before its end
 abbrev pub holds : ℕ → Line → Bool
 holds sector line = nat_le line.start sector && nat_lt sector (line.start + line.len)
 
--- the first of these lines that holds the sector
+-- the first line of the list that holds the sector
 abbrev pub line_of : List Line → ℕ → Option Line
 line_of lines sector = find (holds sector) lines
 
@@ -46,7 +46,7 @@ pub data Below : Type 0 where
   IsZero : Below
   IsError : Below
 
--- the number of the column that holds the sector at a distance into a striped line
+-- the index of the column that holds the sector at a distance into a striped line
 abbrev pub column_of : (chunk count distance : ℕ) → ℕ
 column_of chunk count distance = (distance / chunk) % count
 
@@ -54,7 +54,7 @@ column_of chunk count distance = (distance / chunk) % count
 abbrev pub in_column : (chunk count distance : ℕ) → ℕ
 in_column chunk count distance = (distance / chunk / count) * chunk + distance % chunk
 
--- what lies below a sector of a column; an error if there is no column with that number
+-- what lies below a sector of a column, or an error if the column doesn't exist
 abbrev pub below_column : Option ResolvedColumn → ℕ → Below
 below_column (Some column) sector = Lies column.to (column.offset + sector)
 below_column None sector = IsError
@@ -64,7 +64,7 @@ abbrev pub below_stripes : (chunk : ℕ) → List ResolvedColumn → ℕ → Bel
 below_stripes chunk columns distance =
     below_column (slice_get columns (column_of chunk (length columns) distance)) (in_column chunk (length columns) distance)
 
--- the target has state, so what lies below its sectors depends on earlier writes; a target not listed here has none
+-- the target has state, so what lies below its sectors depends on earlier writes; a target not listed here has no state
 abbrev pub has_state : ResolvedTarget → Bool
 has_state (found.Snapshot snapshot) = true
 has_state (found.Origin origin) = true
@@ -75,33 +75,33 @@ abbrev pub is_striped : ResolvedTarget → Bool
 is_striped (found.Striped chunk columns) = true
 is_striped _ = false
 
--- what lies below the sector at a distance into a line without state; an error for a target not listed here
+-- what lies below the sector at a distance into a line without state, or an error for a target not listed here
 abbrev pub below_plain : ResolvedTarget → ℕ → Below
 below_plain (found.Linear to offset) distance = Lies to (offset + distance)
 below_plain (found.Striped chunk columns) distance = below_stripes chunk columns distance
 below_plain found.Zero distance = IsZero
 below_plain _ distance = IsError
 
--- what lies below the sector at a distance into a line. For a snapshot, whose sectors move as it is written, over gives the answer; its line starts at sector 0
+-- what lies below the sector at a distance into a line. For a snapshot, whose sectors move when written, `over` decides; a snapshot's line starts at sector 0
 abbrev pub below_target : (over : ResolvedSnapshot → ℕ → Below) → ResolvedTarget → ℕ → Below
 below_target over (found.Snapshot snapshot) distance = over snapshot distance
 below_target over (found.Origin origin) distance = Lies origin.to distance
 below_target over target distance = below_plain target distance
 
--- the number of the chunk with the sector at a distance into the line; None for targets without chunks, and for any not listed here
+-- the number of the chunk that contains the sector at a distance into the line; None for a target not listed here, which has no chunks
 abbrev pub chunk_at : ResolvedTarget → (distance : ℕ) → Option ℕ
 chunk_at (found.Striped chunk columns) distance = Some (distance / chunk)
 chunk_at (found.Snapshot snapshot) distance = Some (distance / snapshot.chunk)
 chunk_at _ distance = None
 
--- both are the same chunk, or both are none
+-- both are the same chunk, or both are None
 abbrev pub is_same_chunk : Option ℕ → Option ℕ → Bool
 is_same_chunk None None = true
 is_same_chunk None (Some other) = false
 is_same_chunk (Some chunk) None = false
 is_same_chunk (Some chunk) (Some other) = chunk == other
 
--- what lies below a sector of a device, by the line that holds it; an error if no line does
+-- what lies below a sector of a device, given the line that holds the sector; an error if no line does
 abbrev pub below_line : (over : ResolvedSnapshot → ℕ → Below) → Option ResolvedLine → ℕ → Below
 below_line over (Some line) sector = below_target over line.target (sector - line.start)
 below_line over None sector = IsError
@@ -114,7 +114,7 @@ resolved_lines stack device = map (resolved_line stack) (lines_at stack device)
 abbrev pub found_at : Description → ℕ → ℕ → Option ResolvedLine
 found_at stack device sector = option_map (resolved_line stack) (line_of (lines_at stack device) sector)
 
--- what lies below a sector of a device, given what lies below sectors of snapshots
+-- what lies below a sector of a device; `over` returns what lies below a sector of a snapshot
 abbrev pub below : (over : ResolvedSnapshot → ℕ → Below) → Description → ℕ → ℕ → Below
 below over stack device sector = below_line over (found_at stack device sector) sector
 
@@ -136,7 +136,7 @@ pub record AreStripes (stack : Description) (len chunk : ℕ) (columns : List Re
   pub whole : column_len ≡ chunks * chunk
   pub inside : AllByRecursion (λ column. LiesIn stack column.to column.offset column_len) columns
 
--- a snapshot covers a device as long as its origin, its chunk size is within the limit, and its store is one that may hold chunks
+-- a snapshot covers a whole device as long as its origin, its chunk size is within the limit, and its store is of a permitted form
 pub record IsSnapshotSound (stack : Description) (device start len : ℕ) (snapshot : ResolvedSnapshot) : Type 0 where
   pub chunk_some : 0 < snapshot.chunk
   pub chunk_small : snapshot.chunk ≤ MOST_SNAPSHOT_CHUNK
@@ -145,14 +145,14 @@ pub record IsSnapshotSound (stack : Description) (device start len : ℕ) (snaps
   pub origin : lower_len stack snapshot.origin ≡ len
   pub store : IsStore stack snapshot.store
 
--- an origin's line covers a device as long as what it names, and lists all snapshots of that
+-- an origin's line covers a whole device as long as the device or disk that it names, and lists all snapshots of the latter
 pub record IsOriginSound (stack : Description) (device start len : ℕ) (origin : ResolvedOrigin) : Type 0 where
   pub from : start ≡ 0
   pub whole : len ≡ device_len stack device
   pub same : lower_len stack origin.to ≡ len
   pub over : origin.over ≡ snapshots_over stack origin.to
 
--- what code relies on for the target of a line at this start and of this length in a device
+-- what code relies on about the target of a line with this start and length in a device
 abbrev pub IsTargetSound : Description → (device start len : ℕ) → ResolvedTarget → Type 0
 IsTargetSound stack device start len (found.Linear to offset) = LiesIn stack to offset len
 IsTargetSound stack device start len (found.Striped chunk columns) = AreStripes stack len chunk columns
@@ -167,7 +167,7 @@ pub record IsLine (stack : Description) (device : ℕ) (line : ResolvedLine) : T
   pub target : IsTargetSound stack device line.start line.len line.target
   pub all : (other : ℕ) → line.start ≤ other → other < line.start + line.len → found_at stack device other ≡ Some line
 
--- the line of a sound stack's device that holds this sector
+-- the line is the one that holds this sector of a device, in a sound stack
 pub record IsLineOf (stack : Description) (device : ℕ) (line : ResolvedLine) (sector : ℕ) : Type 0 where
   pub from : line.start ≤ sector
   pub before : sector < line.start + line.len

@@ -1,4 +1,4 @@
--- Legs: runs of a line's sectors with one thing below them: consecutive sectors, zeros, errors, or a snapshot's or origin's.
+-- Legs: runs of a line's sectors that have below them either consecutive sectors, zeros, errors, a snapshot or an origin.
 use Rattle.dm_stack.specs.Base.{ℕ, Bool, false, true, List, length, StripePosition}
 use Rattle.dm_stack.specs.declared.lines.resolved_columns.ResolvedColumn.{ResolvedColumn}
 use Rattle.dm_stack.specs.declared.id.Lower.TheVariants.{Disk}
@@ -15,7 +15,7 @@ use Rattle.dm_stack.specs.checks.Soundness.{IsSound}
 use Rattle.dm_stack.specs.lines.StripePosition.{IsStripePosition}
 use Rattle.std.specs.Prelude.{◌≡◌, ◌+◌, ◌-◌, ◌≤◌, ◌<◌}
 
--- a target whose line could be in a sound stack, and has len sectors from a distance into the line
+-- a line with this target can be in a sound stack, and has len sectors from this distance into the line on
 pub record HasSectors (target : ResolvedTarget) (distance len : ℕ) : Type 0 where
   pub stack : Description
   pub sound : IsSound stack
@@ -26,7 +26,7 @@ pub record HasSectors (target : ResolvedTarget) (distance len : ℕ) : Type 0 wh
   pub inside : distance + len ≤ line_len
   pub small : line_len ≤ MOST_LENGTH
 
--- what lies below len sectors of a line without state is as row says, and the sectors are all in one chunk
+-- `row` returns what lies below each of len sectors of a line without state, and the sectors are all in one chunk
 pub record GoesOn (target : ResolvedTarget) (distance len : ℕ) (row : ℕ → Below) : Type 0 where
   pub plain : has_state target ≡ false
   pub below : (i : ℕ) → i < len → below_plain target (distance + i) ≡ row i
@@ -40,7 +40,7 @@ IsBeneath target distance len beneath.Errors = GoesOn target distance len (λ i.
 IsBeneath target distance len (beneath.Snapshot snapshot) = target ≡ found.Snapshot snapshot.now
 IsBeneath target distance len (beneath.Origin origin) = target ≡ found.Origin origin.now
 
--- a leg of at most `most` sectors from a distance into a line; if it is shorter, the line is striped and the sector after the leg is in another chunk
+-- a leg of at most `most` sectors, from a distance into a line on; if the leg is shorter, the line is striped and the sector after the leg is in another chunk
 pub record IsLeg (target : ResolvedTarget) (distance most : ℕ) (leg : Leg) : Type 0 where
   pub some : 1 ≤ leg.len
   pub within : leg.len ≤ most
@@ -48,12 +48,12 @@ pub record IsLeg (target : ResolvedTarget) (distance most : ℕ) (leg : Leg) : T
   pub striped : leg.len < most → is_striped target ≡ true
   pub next : leg.len < most → is_same_chunk (chunk_at target (distance + leg.len - 1)) (chunk_at target (distance + leg.len)) ≡ false
 
--- the device or disk that a leg lies on has all of its sectors
+-- the device or disk below a leg has all sectors of the leg
 abbrev pub AreInside : Description → (len : ℕ) → Beneath → Type 0
 AreInside stack len (beneath.Lies to sector) = sector + len ≤ lower_len stack to
 AreInside stack len _ = Unit {0}
 
--- an iterator over legs: the target, the distance of the next sector into the line, and how many sectors are left
+-- what contracts see of an iterator over legs: the target, the distance of the next sector into the line, and how many sectors are left
 pub record LegsView : Type 0 where
   pub target : ResolvedTarget
   pub distance : ℕ
@@ -63,7 +63,7 @@ pub record LegsView : Type 0 where
 abbrev pub after_leg : LegsView → (len : ℕ) → LegsView
 after_leg legs len = record { target = legs.target; distance = legs.distance + len; left = legs.left - len }
 
--- the striped line has the sectors that are left, and the position of the first of them is this one
+-- the striped line has the sectors that are left, and `position` is that of the first of them
 pub record AreLeft (chunk_size : ℕ) (columns : List ResolvedColumn) (position : StripePosition) (distance left : ℕ) : Type 0 where
   pub there : HasSectors (found.Striped chunk_size columns) distance left
   pub at : 0 < left → IsStripePosition chunk_size (length columns) distance position
@@ -78,7 +78,7 @@ abbrev pub LiesOnDisk : Beneath → Type 0
 LiesOnDisk (beneath.Lies (Disk disk) sector) = Unit {0}
 LiesOnDisk _ = ⊥
 
--- the legs that are left lie on disks: the target is striped over disks, sound in this stack, and has the sectors that are left
+-- the legs that are left lie on disks, because the target is sound in this stack, is striped over disks, and has the sectors that are left
 pub record AreOnDisks (stack : Description) (legs : LegsView) : Type 0 where
   pub device : ℕ
   pub start : ℕ

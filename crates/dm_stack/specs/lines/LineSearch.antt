@@ -19,7 +19,7 @@ StartsAfter lines index sector = MatchOption (slice_get lines index) ⊤ (λ lin
 abbrev pub IsStartOf : List ResolvedLine → (index start : ℕ) → Type 0
 IsStartOf lines index start = MatchOption (slice_get lines index) (start + 1 ≡ 2 ^ 64) (λ line. start ≡ line.start)
 
--- the line at the index is that of the sector: it starts there or before, and the next line starts after the sector
+-- the line at the index holds the sector: it starts at the sector or before, and the next line starts after the sector
 pub record IsLineOf (lines : List ResolvedLine) (index sector : ℕ) : Type 0 where
   pub within : index < length lines
   pub from : StartsBy lines index sector
@@ -35,11 +35,11 @@ pub record AreFirsts (lines : List ResolvedLine) (firsts : List ℕ) (shift : �
 abbrev pub EndsAt : List ResolvedLine → (index sector : ℕ) → Type 0
 EndsAt lines index sector = MatchOption (slice_get lines index) ⊥ (λ line. line.start + line.len ≡ sector)
 
--- each of these lines ends within the limit on lengths
+-- each line of the list ends within the limit on lengths
 abbrev pub EndsAreSmall : List ResolvedLine → Type 0
 EndsAreSmall lines = All (λ line. line.start + line.len ≤ MOST_LENGTH) lines
 
--- the last line found is the one at its index, and it ends where noted; before the first search, the noted end is past every device
+-- the line found last is at the recorded index, and ends at the recorded end; before the first search, the recorded end is past every device
 abbrev pub IsLast : Description → LastLine → Type 0
 IsLast stack last = last.end ≤ MOST_LENGTH → EndsAt (resolved_lines stack last.device) last.index last.end
 
@@ -52,7 +52,7 @@ digits_to (suc most) number = if number == 0 then 0 else suc (digits_to most (nu
 abbrev pub binary_digits : ℕ → ℕ
 binary_digits number = digits_to number number
 
--- what a search for a sector returns: the index of its line, and the number of comparisons, at most one for each binary digit of the number of lines
+-- the promise of a search for a sector: it returns the index of the sector's line, and the number of comparisons, at most one for each binary digit of the number of lines
 pub record Finds (lines : List ResolvedLine) (sector : ℕ) (found : ℕ × ℕ) : Type 0 where
   pub line : IsLineOf lines found.0 sector
   pub few : found.1 ≤ binary_digits (length lines)

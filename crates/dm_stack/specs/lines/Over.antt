@@ -8,7 +8,7 @@ use Rattle.dm_stack.specs.Description.{Description, is_same_lower, lines_at, low
 use Rattle.dm_stack.specs.checks.Soundness.{is_bad_chunk}
 use Rattle.std.specs.Prelude.{◌≡◌, ◌==◌, ◌&&◌, ◌∷◌, if◌then◌else◌}
 
--- the chunk size if it is a permitted one; else 1, for a snapshot that a load refuses anyway
+-- the chunk size if it is permitted, or else 1, because a load refuses the snapshot anyway
 abbrev pub fit_chunk : ℕ → ℕ
 fit_chunk chunk = if is_bad_chunk chunk then 1 else chunk
 
@@ -16,12 +16,12 @@ fit_chunk chunk = if is_bad_chunk chunk then 1 else chunk
 abbrev pub resolved_snapshot : Description → (origin store : DevRef) → StoreKind → (chunk : ℕ) → ResolvedSnapshot
 resolved_snapshot stack origin store kind chunk = record { origin = lower_of stack origin; store = lower_of stack store; kind = kind; chunk = fit_chunk chunk }
 
--- if the target is a snapshot, it is this one, with ids in place of names
+-- if the target is a snapshot, `snapshot` is that snapshot with ids in place of names
 abbrev pub IsSnapshotOf : Description → ResolvedSnapshot → Target → Type 0
 IsSnapshotOf stack snapshot (targets.Snapshot origin store kind chunk) = snapshot ≡ resolved_snapshot stack origin store kind chunk
 IsSnapshotOf stack snapshot _ = Unit {0}
 
--- the snapshot of a line of this device, as a list of one; an empty list for any other target
+-- the snapshot that a line of this device is, as a list of one, or an empty list for any other target
 abbrev pub over_of : Description → (device : ℕ) → Target → List ResolvedOver
 over_of stack device (targets.Snapshot origin store kind chunk) = record { device = device; snapshot = resolved_snapshot stack origin store kind chunk } ∷ []
 over_of stack device _ = []
@@ -38,7 +38,7 @@ all_over stack = flat_map (device_over stack) (range_with_len 0 (length stack.de
 unfoldable pub snapshots_over : Description → Lower → List ResolvedOver
 snapshots_over stack to = filter (λ one. is_same_lower one.snapshot.origin to) (all_over stack)
 
--- the target's line must be the only one of its table: it is a snapshot or an origin
+-- the target is a snapshot or an origin, so its line must be the only one of its table
 abbrev pub is_whole : Target → Bool
 is_whole (targets.Snapshot origin store kind chunk) = true
 is_whole (targets.Origin origin) = true
@@ -48,10 +48,10 @@ is_whole _ = false
 abbrev pub has_crowd : DeviceSpec → Bool
 has_crowd device = not (length device.lines == 1) && list_any (λ line. is_whole line.target) device.lines
 
--- the snapshots that origin lines copy from: none if a load will refuse a crowded table, in which there could be as many copies as the square of the lines
+-- the snapshots from which origin lines copy; none if a table is crowded, which a load refuses, because there could be as many copies as the square of the number of lines
 unfoldable pub copied : Description → List ResolvedOver
 copied stack = if list_any has_crowd stack.devices then [] else all_over stack
 
--- the snapshots of an origin that its own line keeps a copy of
+-- the snapshots of an origin of which the origin's own line keeps a copy
 unfoldable pub origin_over : Description → Lower → List ResolvedOver
 origin_over stack to = filter (λ one. is_same_lower one.snapshot.origin to) (copied stack)

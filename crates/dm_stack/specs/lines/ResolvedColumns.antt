@@ -9,6 +9,6 @@ abbrev pub is_disk : Lower → Bool
 is_disk (Device device) = false
 is_disk (Disk disk) = true
 
--- all of these columns are on disks
+-- all columns of the list are on disks
 abbrev pub are_on_disks : List ResolvedColumn → Bool
 are_on_disks columns = list_all (λ column. is_disk column.to) columns

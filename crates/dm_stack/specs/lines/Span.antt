@@ -12,7 +12,7 @@ use Rattle.dm_stack.specs.Description.{Description, lower_len, lower_link, lower
 use Rattle.dm_stack.specs.checks.Soundness.{passes}
 use Rattle.std.specs.Prelude.{◌+◌, ◌/◌, ◌∷◌}
 
--- a column's span, with the column's share of the line's length
+-- the span of a column, whose length is the column's share of the line's length
 abbrev pub column_span : ℕ → ResolvedColumn → Span
 column_span len column = record { to = column.to; offset = column.offset; len = Some len; kind = Own }
 
@@ -33,7 +33,7 @@ target_spans len (found.Origin origin) = whole_span origin.to Serving ∷ []
 abbrev pub spans : ResolvedLine → List Span
 spans line = target_spans line.len line.target
 
--- a span by names, with the id of what it names
+-- a span with the id of the device or disk in place of the name
 abbrev pub by_id : Description → NamedSpan → Span
 by_id stack span = record { to = lower_of stack span.to; offset = span.offset; len = span.len; kind = span.kind }
 
@@ -46,7 +46,7 @@ is_missing stack (Disk id) = nat_le (length stack.disks) id
 abbrev pub names_missing : Description → ResolvedLine → Bool
 names_missing stack line = list_any (λ span. is_missing stack span.to) (spans line)
 
--- the devices that a line names
+-- the ids of the devices that a line names, in order
 abbrev pub line_links : ResolvedLine → List ℕ
 line_links line = flat_map (λ span. lower_link span.to) (spans line)
 
@@ -57,7 +57,7 @@ is_past stack span = passes (lower_len stack span.to) span.offset span.len
 abbrev pub passes_end : Description → ResolvedLine → Bool
 passes_end stack line = list_any (is_past stack) (spans line)
 
--- where a span ends: what is named whole is claimed to its end
+-- the end of a span; a span without a length ends where the device or disk does
 abbrev pub span_end : (whole offset : ℕ) → Option ℕ → ℕ
 span_end whole offset (Some len) = offset + len
 span_end whole offset None = whole

@@ -1,7 +1,7 @@
 //! The check for devices that are too deep, and the depth of a stack.
 //!
-//! Depths come from `graph`, which defines them and cuts off any depth above the limit at one more than the
-//! limit. Both functions here go over the depths once.
+//! The functions of `graph` find the depths, and cut off any depth above the limit at one more than the limit.
+//! Both functions of this module go over the depths once.
 
 ghost use Rattle.dm_stack.specs.Prelude.{None, length, nat_lt, slice_index_or, result_err, Deep, first_or, greatest, faults_by_id};
 ghost use Rattle.std.specs.Prelude.{◌≡◌};
@@ -28,7 +28,7 @@ pub(crate) fn check_depths(devices: &[DeviceSpec], depths: &[u32]) -> Result<(),
     Ok(())
 }
 
-/// The greatest of these depths, or 0 if there are none.
+/// The greatest depth of a list, or 0 for an empty list.
 pub(crate) fn deepest(depths: &[u32]) -> u32
     ensures { result ≡ greatest depths.now }
 {

@@ -1,6 +1,6 @@
 //! Faults of checks: the kind of fault, and where in the input the first bad element is.
 //!
-//! A check that tests elements one by one only says which are bad; the fault is built here.
+//! A check that tests elements one by one only decides which are bad; functions of this module build the fault.
 
 ghost use Rattle.dm_stack.specs.Prelude.{ℕ, Bool, IfErr, IfOk, None, FnReturns, FnReturnsAt, result_err, Source, Place, Line, IsMemoryFault, faults_by, first_or, device_faults, ResolvedLine, resolved_line};
 ghost use Rattle.std.specs.Prelude.{◌≡◌};
@@ -29,7 +29,7 @@ pub(crate) fn or_out_of_memory<T>(made: Result<T, AllocError>) -> Result<T, Load
     }
 }
 
-/// Fails with the first fault that a check found, if it found one.
+/// Fails with the first fault that a check found, or succeeds if there is none.
 pub(crate) fn refuse(first: Option<LoadFault>) -> Result<(), LoadFault>
     ensures { result_err result ≡ first }
 {
@@ -39,7 +39,7 @@ pub(crate) fn refuse(first: Option<LoadFault>) -> Result<(), LoadFault>
     }
 }
 
-/// A device, line, disk or path, which users find again by its place in the input.
+/// A device, line, disk or path; its place in the input is reported to the user.
 pub(crate) trait Placed {
     ghost place_of: { Self → Place };
 
@@ -80,7 +80,7 @@ impl Placed for DiskPath {
     }
 }
 
-/// Fails with this kind of fault at the first element of a list that is bad.
+/// Fails with this kind of fault at the first bad element of a list.
 pub(crate) fn check_each<T: Placed, F: Fn(&T) -> bool>(
     kind: LoadKind,
     list: &[T],
@@ -100,8 +100,8 @@ pub(crate) fn check_each<T: Placed, F: Fn(&T) -> bool>(
     Ok(())
 }
 
-/// Fails with this kind of fault at the first bad line of the stack. `is_bad` is given the line, the line with
-/// ids, and the number of lines in its device.
+/// Fails with this kind of fault at the first bad line of the stack. The arguments of `is_bad` are the line, the
+/// line with ids, and the number of lines in its device.
 pub(crate) fn check_by_ids<F: Fn(&Line, &ResolvedLine, usize) -> bool>(
     kind: LoadKind,
     stack: &Resolved,

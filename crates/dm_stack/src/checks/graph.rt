@@ -1,7 +1,7 @@
-//! The graph of which devices name which, by index: finds cycles and depths.
+//! Finds cycles and depths in the graph of which devices name which, by index.
 //!
 //! Depths are found first, in rounds that are linear in the links. Only a device that is too deep can be on a
-//! cycle, so what a device reaches is searched for few devices or none.
+//! cycle, so few devices or none are searched for a path to themselves.
 
 ghost use Rattle.dm_stack.specs.Prelude.{ℕ, length, map, IfOk, IfSome, IfNone, OnOk, IsTrue, false, All, Contains, IsClosed, Names, Reaches, Visits, depth_over, depths_to, links_in};
 ghost use Rattle.dm_stack.specs.declared.checks.graph.TheConstants.{FOLLOWED_LEVELS};
@@ -18,8 +18,8 @@ const FOLLOWED_LEVELS: u32 = MOST_DEPTH + 1;
 
 /// Finds the depth of each device, cut off at `FOLLOWED_LEVELS`.
 ///
-/// A device that names no device has depth 1; any other is one deeper than the deepest that it names. A result of
-/// `FOLLOWED_LEVELS` stands for any depth from there on, and for devices on a cycle.
+/// A device that names no device has depth 1; any other is one deeper than the deepest device that it names. A
+/// result of `FOLLOWED_LEVELS` means that or any greater depth, or that the device is on a cycle.
 ///
 /// Fails only when out of memory. Cost: linear in the links for each level of devices, of which at most
 /// `FOLLOWED_LEVELS` are followed, with memory for two numbers per device.
@@ -38,7 +38,7 @@ pub(crate) fn depths(alloc: Global, links: &[Vec<usize>]) -> Result<Vec<u32>, Al
     Ok(depths)
 }
 
-/// The depths after one more level than these.
+/// The depths of all devices, followed for one more level than `depths`.
 fn next_depths(alloc: Global, links: &[Vec<usize>], depths: &[u32]) -> Result<Vec<u32>, AllocError>
     requires closed { (d e : ℕ) → Names (links_in links.now) d e → e < length depths.now }
     requires bounded { All (λ depth. depth ≤ FOLLOWED_LEVELS) depths.now }
@@ -66,7 +66,7 @@ fn depth_over(named: &[usize], depths: &[u32]) -> u32
 
 /// Whether a device names itself, directly or through other devices.
 ///
-/// Fails only when out of memory. Cost: linear in the links, with memory for a mark per device, and for the
+/// Fails only when out of memory. Cost: linear in the links, with memory for a mark for each device, and for the
 /// devices that are still to be visited.
 pub(crate) fn reaches_itself(
     alloc: Global,
@@ -87,7 +87,7 @@ pub(crate) fn reaches_itself(
     Ok(visited[device])
 }
 
-/// Marks the named devices as visited; those not marked before are added to `waiting`.
+/// Marks the named devices as visited, and adds those that were not marked before to `waiting`.
 fn visit(named: &[usize], visited: &mut [bool], waiting: &mut Vec<usize>) -> Result<(), AllocError>
     requires { (e : ℕ) → Contains named.now e → e < length visited.old }
     ensures { OnOk result (Visits named.now visited.old visited.new waiting.old.items waiting.new.items) }
@@ -105,7 +105,7 @@ fn visit(named: &[usize], visited: &mut [bool], waiting: &mut Vec<usize>) -> Res
 /// `depths`.
 ///
 /// Fails only when out of memory. Cost: linear in the devices if none is too deep; else one search of all links
-/// for each device that is, up to the first on a cycle.
+/// for each device that is too deep, up to the first on a cycle.
 pub(crate) fn first_cycle(
     alloc: Global,
     links: &[Vec<usize>],

@@ -1,7 +1,7 @@
 //! The check for devices and disks of length 0, and the end of a device.
 //!
-//! A table starts at sector 0, and each line starts where the one before ends (dmsetup(8)); `lines` checks that.
-//! So a device ends where its last line does; if you change that, change `end_of` of the specs, too.
+//! A table starts at sector 0, and each line starts where the line before ends (dmsetup(8)); `lines` checks both.
+//! So a device ends where its last line does; if you change this rule, change `end_of` of the specs, too.
 
 ghost use Rattle.dm_stack.specs.Prelude.{None, flat_map, result_err, first_or, end_of, HaveSmallEnds, empty, empty_in};
 ghost use Rattle.std.specs.Prelude.{◌≡◌};

@@ -1,7 +1,7 @@
 //! The checks for counts and numbers above their limits.
 //!
-//! Two numbers within the limits add up without overflow in 64 bits, and later checks rely on that. The
-//! definitions use these same constants.
+//! Two numbers within the limits add up without overflow in 64 bits, and later checks rely on this. The
+//! definitions of the specs use the same constants.
 
 ghost use Rattle.dm_stack.specs.Prelude.{[], None, nat_lt, option_copied, slice_get, list_any, result_err, Limit, first_or, all_lines, is_far, is_large, line_faults, past, too_large, too_many, described};
 ghost use Rattle.dm_table.specs.Prelude.{spans};
@@ -35,7 +35,7 @@ pub const MOST_SNAPSHOT_CHUNK: u64 = 1024;
 /// The most chunks that all stores of a stack together may have room for.
 pub const MOST_PLACES: u64 = 4_194_304;
 
-/// Fails at the first device above the limit, or else the first disk above it, or else the first line above it.
+/// Fails at the first device past the limit, or else at the first disk or line past the limit of its kind.
 ///
 /// Cost: a walk over the devices.
 pub(crate) fn check_counts(devices: &[DeviceSpec], disks: &[Disk]) -> Result<(), LoadFault>
@@ -52,7 +52,7 @@ pub(crate) fn check_counts(devices: &[DeviceSpec], disks: &[Disk]) -> Result<(),
     }
 }
 
-/// Fails at the first element of a list after the first `most`.
+/// Fails if the list has more than `most` elements, at the first one too many.
 fn check_count<T: Placed>(most: usize, list: &[T]) -> Result<(), LoadFault>
     ensures { result_err result ≡ first_or (past most T.place_of list.now) None }
 {

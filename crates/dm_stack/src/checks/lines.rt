@@ -1,8 +1,8 @@
 //! The checks of lines, all in one walk over the lines of all devices.
 //!
-//! By definition, each check goes over all lines after the check before it has passed. That many lines don't fit
-//! into a cache, so each line is looked at once: the first fault of each check is noted, and `load` asks for the
-//! faults in the order of the checks. To add a check of lines, add a field here and in
+//! By definition, each check goes over all lines after the check before has passed. Because so many lines don't
+//! fit into a cache, each line is read only once: the first fault of each check is recorded, and `load` reports
+//! these faults in the order of the checks. To add a check of lines, add a field to `BadLines` and a clause in
 //! `specs/checks/BadLines.antt`.
 
 ghost use Rattle.dm_stack.specs.Prelude.{All, map, nat_lt, Gap, Overlap, HaveSmallEnds, resolved_line, AreFirst, noted_device, noted_line, or_bad};
@@ -50,7 +50,7 @@ pub(crate) fn bad_lines(stack: &Resolved) -> BadLines
     found
 }
 
-/// Notes the faults of one device: that it has no lines, or the faults of its lines.
+/// Records the faults of one device: a fault if the device has no lines, else the faults of its lines.
 fn note_device(found: &mut BadLines, stack: &Resolved, device: &DeviceSpec, by_ids: &[ResolvedLine])
     requires by_ids { by_ids.now ≡ map (resolved_line stack.now) device.now.lines }
     requires small { HaveSmallEnds device.now.lines }
@@ -64,8 +64,8 @@ fn note_device(found: &mut BadLines, stack: &Resolved, device: &DeviceSpec, by_i
     }
 }
 
-/// Notes the faults of a line, in a device of `count` lines, after a line that ends at `end`; returns the line's
-/// own end.
+/// Records the faults of a line of a device with `count` lines, where the line before ends at `end`; returns the
+/// end of this line.
 fn note_line(
     found: &mut BadLines,
     stack: &Resolved,
@@ -116,7 +116,7 @@ fn misplaced_kind(end: u64, start: u64) -> LoadKind
     }
 }
 
-/// Notes a fault at this element, if it is bad and its check has no fault yet.
+/// Records a fault at this element, if the element is bad and the check has no fault yet.
 fn note<T: Placed>(first: &mut Option<LoadFault>, kind: LoadKind, item: &T, bad: bool)
     ensures { first.new ≡ or_bad first.old kind (T.place_of item.now) bad }
 {

@@ -12,8 +12,8 @@ use std::alloc::{AllocError, Global};
 
 /// For each device, the indexes of the devices that its lines name.
 ///
-/// Fails only when out of memory. Cost: linear in the lines and their columns, with memory for a number each time
-/// that a device is named.
+/// Fails only when out of memory. Cost: linear in the lines and their columns, with memory for one number for
+/// each mention of a device.
 pub(crate) fn links(alloc: Global, stack: &Resolved) -> Result<Vec<Vec<usize>>, AllocError>
     ensures { IfOk result (λ named. links_in named.items ≡ links stack.now) }
 {
@@ -31,7 +31,7 @@ fn lines_links(alloc: Global, lines: &[ResolvedLine]) -> Result<Vec<usize>, Allo
     let mut links = Vec::new(alloc);
     for line in lines {
         match line.target {
-            // Zero and error lines name nothing, and this test is cheaper than going over their spans.
+            // Zero and error lines name no device, and testing the target is cheaper than going over its spans.
             ResolvedTarget::Zero | ResolvedTarget::Error => {}
             _ => add_line(&mut links, line)?,
         }

@@ -1,7 +1,7 @@
 //! Runs the checks of a load in their order, and collects what a stack keeps from them.
 //!
-//! Each check fails with its first fault, and none runs after one that failed, so later checks can rely on what
-//! earlier ones passed. To add a check, give it a place here and in `specs/checks/Soundness.antt`.
+//! Each check fails with its first fault, and no check runs after one that failed, so later checks can rely on
+//! earlier ones. To add a check, add it to the order in this module and in `specs/checks/Soundness.antt`.
 
 ghost use Rattle.dm_stack.specs.Prelude.{IfErr, IfOk, None, OnOk, map, take, Source, IsMemoryFault, first_fault, described, links, IsClosed, IsFirstRing, depths_to, IsLoaded, stack_depth, HasNoCycle, IsFirstCycle, IsRefusedBy, IsSound, checks_before, store_links, AreFirst};
 ghost use Rattle.dm_stack.specs.declared.checks.graph.TheConstants.{FOLLOWED_LEVELS};
@@ -26,7 +26,7 @@ use crate::names::indexed::Indexed;
 use dm_table::{DeviceSpec, Disk, LoadFault, LoadKind};
 use std::alloc::{AllocError, Global};
 
-/// What a stack keeps beside the lists that it was loaded from.
+/// What a stack keeps in addition to the lists that it was loaded from.
 #[derive(Drop)]
 pub(crate) struct Checked {
     pub names: Names,
@@ -45,10 +45,10 @@ struct Graph {
 
 /// Runs the checks of a load, up to the first that finds a fault.
 ///
-/// Checks that can fail late are in functions of their own, which own nothing that a failure would have to drop.
+/// Checks that can fail late are in separate functions, which own no memory that a failure would have to free.
 ///
-/// Cost: near-linear in lines, columns, devices and disks, and one search of what is reached for each device that
-/// is too deep. Fails with `Memory` if an allocation is refused.
+/// Cost: near-linear in lines, columns, devices and disks, and, for each device that is too deep, a search of all
+/// that it reaches. Fails with `Memory` if an allocation is refused.
 pub(crate) fn check(
     alloc: Global,
     devices: &[DeviceSpec],
@@ -88,7 +88,7 @@ fn check_texts(alloc: Global, devices: &[DeviceSpec], disks: &[Disk]) -> Result<
     Ok(names)
 }
 
-/// Runs the checks that go by ids, and returns the depth of the stack.
+/// Runs the checks that use ids, and returns the depth of the stack.
 fn check_ids(alloc: Global, stack: &Resolved) -> Result<u32, LoadFault>
     requires { first_fault (take 3 (checks_before stack.now)) ≡ None }
     ensures sound { OnOk result (IsSound stack.now) }
@@ -104,7 +104,7 @@ fn check_ids(alloc: Global, stack: &Resolved) -> Result<u32, LoadFault>
     Ok(deepest(&graph.depths))
 }
 
-/// Runs the check for cycles and all later checks, with the cycle and the depths that were found.
+/// Runs the check for cycles and all later checks, given the cycle and the depths that were found.
 fn check_graph(stack: &Resolved, found: &BadLines, graph: &Graph) -> Result<(), LoadFault>
     requires lines { AreFirst stack.now found.now }
     requires before { first_fault (checks_before stack.now) ≡ None }
@@ -141,7 +141,7 @@ fn follow(alloc: Global, stack: &Resolved) -> Result<Graph, AllocError>
     })
 }
 
-/// Fails at the device on a cycle, if there is one.
+/// Fails at the device with the index `cycle`, unless `cycle` is None.
 fn check_cycles(stack: &Resolved, cycle: Option<usize>) -> Result<(), LoadFault>
     requires { IsFirstRing (links stack.now) cycle }
     ensures passed { OnOk result (HasNoCycle stack.now) }

@@ -1,7 +1,7 @@
 //! The check for names that are used twice, and the indexes of the names of devices and of disks.
 //!
-//! A name that occurs twice is found when it is added to an index, without another walk over the names. A name's
-//! number in its index is the id of its device or disk.
+//! A name that occurs twice is noticed when it is added to an index, without another walk over the names. A
+//! name's number in its index is the id of its device or disk.
 
 ghost use Rattle.dm_stack.specs.Prelude.{ℕ, IfErr, IfOk, List, None, OnOk, Some, map, Memory, Source, Answers, IsMemoryFault, first_or, unless, described, twice, twice_in};
 ghost use Rattle.std.specs.Prelude.{◌≡◌, ◌≢◌};
@@ -11,11 +11,11 @@ use crate::names::name_index::NameIndex;
 use dm_table::{DeviceSpec, Disk, DiskPath, LoadFault, LoadKind};
 use std::alloc::Global;
 
-/// A device, a disk, or a path for a disk: anything in the input with a name.
+/// An element of the input that has a name: a device, a disk, or a path for a disk.
 pub(crate) trait Named {
     ghost name_of: { Self → List ℕ };
 
-    /// The name as it is in the input.
+    /// The name as written in the input.
     fn name(&self) -> &str
         ensures { result.now ≡ name_of self.now };
 }
@@ -54,7 +54,7 @@ pub(crate) struct Names {
 /// Indexes the names of devices and disks. Fails at the first device, or else the first disk, with the name of an
 /// earlier one.
 ///
-/// Cost: near-linear, with memory for a copy of each name. Fails with `Memory` if that is refused.
+/// Cost: near-linear, with memory for a copy of each name. Fails with `Memory` if memory runs out.
 pub(crate) fn check_names(
     alloc: Global,
     devices: &[DeviceSpec],
@@ -72,7 +72,7 @@ pub(crate) fn check_names(
     Ok(Names { devices, disks })
 }
 
-/// Indexes the names of a list. Fails at the first element with the name of an earlier one.
+/// Indexes the names of a list. Fails at the first element with the name of an earlier element.
 pub(crate) fn index_of<T: Named + Placed>(alloc: Global, list: &[T]) -> Result<NameIndex, LoadFault>
     ensures { Answers Source (λ index. index) result
         (unless (first_or (twice_in T.name_of T.place_of list.now) None) (map T.name_of list.now)) }

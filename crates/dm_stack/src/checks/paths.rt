@@ -1,4 +1,4 @@
-//! The checks of a list of image paths: each is for a disk of the stack, and no disk has two.
+//! The checks of a list of image paths: each path is for a disk of the stack, and no disk has two paths.
 
 ghost use Rattle.dm_stack.specs.Prelude.{IfErr, None, OnOk, Some, result_err, Memory, Unknown, Source, IsMemoryFault, faults_by, first_fault, first_or, is_unknown_path, path_faults};
 ghost use Rattle.std.specs.Prelude.{◌≡◌, ◌≢◌};
@@ -12,7 +12,7 @@ use std::alloc::Global;
 /// Fails at the first path for a disk that an earlier path is for, or else at the first path for a disk that the
 /// stack doesn't have.
 ///
-/// Cost: near-linear, with memory for a copy of each name. Fails with `Memory` if that is refused.
+/// Cost: near-linear, with memory for a copy of each name. Fails with `Memory` if memory runs out.
 pub fn check_paths(alloc: Global, stack: &Stack, paths: &[DiskPath]) -> Result<(), LoadFault>
     ensures passed { OnOk result (first_fault (path_faults stack.now paths.now) ≡ None) }
     ensures fault { IfErr result (λ fault. fault.kind ≢ Memory

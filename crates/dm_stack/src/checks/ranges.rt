@@ -1,7 +1,7 @@
-//! The checks for lines that name unknown devices or disks, or pass the end of what they name.
+//! The checks for lines that name unknown devices or disks, or pass the end of a device or disk that they name.
 //!
 //! When lines get ids, an unknown name gets an id past the last one. A device ends where its last line does, so
-//! the length of a device or a disk takes one look-up. A line's spans are what it names, and how much of it.
+//! the length of a device or a disk takes one look-up. A line's spans are the ranges that it names.
 
 ghost use Rattle.dm_stack.specs.Prelude.{is_past, names_missing};
 ghost use Rattle.dm_stack.specs.lines.Span.{passes_end};
@@ -35,7 +35,7 @@ pub(crate) fn passes_end(stack: &Resolved, line: &ResolvedLine) -> bool
     false
 }
 
-/// Whether a span passes the end of what it names; a span without a length is all of that, and can't.
+/// Whether a span passes the end of its device or disk, which a span without a length never does.
 fn is_past(stack: &Resolved, span: &Span) -> bool
     ensures { result ≡ is_past stack.now span.now }
 {

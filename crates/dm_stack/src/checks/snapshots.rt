@@ -1,9 +1,8 @@
-//! The check of snapshots and origins against their tables and what they name, and the list of devices that are
+//! The check of snapshots and origins against their tables and the origins that they name, and the list of
 //! snapshots.
 //!
-//! A snapshot or an origin is a whole device: its line is the only one of its table, and as long as the origin
-//! that it names. Mapping relies on this, and shifts instead of dividing by a chunk size, so no rule here may be
-//! dropped.
+//! The line of a snapshot or an origin is the only one of its table, and as long as the origin that it names.
+//! Mapping relies on these rules, and shifts instead of dividing by a chunk size, so no rule may be dropped.
 
 ghost use Rattle.dm_stack.specs.Prelude.{[], IfOk, OnOk, described, resolved_target, has_snapshot, snapshots, is_bad_snapshot};
 ghost use Rattle.std.specs.Prelude.{◌≡◌, ◌∷◌, ◌++◌, if◌then◌else◌};
@@ -15,8 +14,8 @@ use crate::lines::resolved_line::ResolvedTarget;
 use dm_table::{DeviceSpec, Line, Target};
 use std::alloc::{AllocError, Global};
 
-/// Whether a line in a device of `lines` lines is a bad snapshot or origin: not the only line, or not as long as
-/// the origin that it names; or a snapshot whose chunk size isn't a power of two from 1 to 1,024 sectors.
+/// Whether a line in a device of `lines` lines is a snapshot or an origin, but not the only line or not as long
+/// as the origin that it names; or a snapshot whose chunk size isn't a power of two from 1 to 1,024 sectors.
 pub(crate) fn is_bad_snapshot(
     stack: &Resolved,
     lines: usize,
@@ -37,7 +36,7 @@ pub(crate) fn is_bad_snapshot(
 
 /// The ids of the devices that are snapshots, in rising order.
 ///
-/// Fails only when out of memory. Cost: a walk over the lines, with memory for an id per snapshot.
+/// Fails only when out of memory. Cost: a walk over the lines, with memory for one id for each snapshot.
 pub(crate) fn snapshots(alloc: Global, devices: &[DeviceSpec]) -> Result<Vec<DeviceId>, AllocError>
     ensures { IfOk result (λ ids. ids.items ≡ snapshots (described devices.now [])) }
 {

@@ -9,7 +9,7 @@ use crate::lines::resolved_line::ResolvedTarget;
 use crate::lines::store_layout::place_count;
 use dm_table::{LoadFault, LoadKind};
 
-/// Fails at the first snapshot at which the stores so far have room for more than 4,194,304 chunks together.
+/// Fails at the first snapshot whose store and all earlier stores have room for more than 4,194,304 chunks.
 ///
 /// Cost: a walk over the lines.
 pub(crate) fn check_places(stack: &Resolved) -> Result<(), LoadFault>

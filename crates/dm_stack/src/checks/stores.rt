@@ -1,8 +1,8 @@
 //! The check of which devices may hold the exception store of a snapshot.
 //!
-//! Below a store there may be only writable devices of linear and striped lines, down to disks. The rounds that
-//! find depths check this for all devices at once: every device of another kind gets a link to itself here, which
-//! makes it and all devices above it too deep, like devices on a cycle.
+//! A store and the devices below it must be writable and have only linear and striped lines, down to disks. The
+//! rounds that find depths check this for all devices at once: every other device gets a link to itself, which
+//! makes the device and all devices above it too deep, like devices on a cycle.
 
 ghost use Rattle.dm_stack.specs.Prelude.{IfOk, None, list_all, result_err, first_or, links, IsClosed, depths_to, links_in, store, has_deep_store, is_plain, is_shallow, may_store, store_links, store_links_of};
 ghost use Rattle.dm_stack.specs.declared.checks.graph.TheConstants.{FOLLOWED_LEVELS};
@@ -16,9 +16,9 @@ use crate::lines::resolved_line::ResolvedTarget;
 use dm_table::{DeviceSpec, Line, LoadFault, LoadKind, Target};
 use std::alloc::{AllocError, Global};
 
-/// The depth of each device as a part of stores; above `MOST_DEPTH` if it can't hold a store.
+/// The depth of each device as a part of stores, which is above `MOST_DEPTH` if the device can't hold a store.
 ///
-/// Fails only when out of memory. Cost: that of finding depths.
+/// Fails only when out of memory. Cost: the same as that of `depths`.
 pub(crate) fn store_depths(
     alloc: Global,
     stack: &Resolved,
@@ -32,7 +32,7 @@ pub(crate) fn store_depths(
     depths(alloc, &named)
 }
 
-/// For each device, the devices that it names, and also itself if it can't hold a store.
+/// For each device, the ids of the devices that it names, and also its own id if it can't hold a store.
 fn store_links(
     alloc: Global,
     stack: &Resolved,
@@ -48,7 +48,7 @@ fn store_links(
     Ok(marked)
 }
 
-/// The devices that a device names, and also itself if it can't hold a store, which puts it on a cycle.
+/// The ids that a device's lines name, and its own id, which makes a cycle, if it can't hold a store.
 fn store_links_of(may: bool, id: usize, links: &Vec<usize>) -> Result<Vec<usize>, AllocError>
     ensures { IfOk result (λ marked. marked.items ≡ store_links_of may id links.now.items) }
 {
@@ -59,7 +59,7 @@ fn store_links_of(may: bool, id: usize, links: &Vec<usize>) -> Result<Vec<usize>
     Ok(marked)
 }
 
-/// Whether a device can hold a store, judged by its own lines and read-only flag alone.
+/// Whether a device can hold a store, judged only by its own lines and its read-only flag.
 fn may_store(device: &DeviceSpec) -> bool
     ensures { result ≡ may_store device.now.ro device.now.lines }
 {
@@ -107,7 +107,7 @@ fn has_deep_store(depths: &[u32], target: &ResolvedTarget) -> bool
     }
 }
 
-/// Whether a store is a disk, or a device within the limit of depth by these depths.
+/// Whether a store is a disk, or a device whose depth in this list is within the limit.
 fn is_shallow(depths: &[u32], lower: Lower) -> bool
     ensures { result ≡ is_shallow depths.now lower }
 {

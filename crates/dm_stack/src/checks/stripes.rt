@@ -2,7 +2,7 @@
 //!
 //! The rules are those of the kernel's striped target (admin guide, device-mapper/striped): all columns have
 //! equal shares of the length, in whole chunks. Mapping divides by the number of columns and by the chunk, so
-//! neither may be 0; if you change a rule, change `is_bad_stripe` of the specs, too.
+//! neither may be 0. If you change a rule, change `is_bad_stripe` of the specs, too.
 
 ghost use Rattle.dm_stack.specs.Prelude.{Description, has_bad_stripes, is_bad_stripe, resolved_target};
 ghost use Rattle.std.specs.Prelude.{◌≡◌};
@@ -11,7 +11,7 @@ use crate::checks::limits::{MOST_CHUNK, MOST_STRIPES};
 use crate::lines::resolved_line::ResolvedTarget;
 use dm_table::{Line, Target};
 
-/// Whether a line is striped and bad: no column or more than 128, a chunk of 0 or above 2^32 - 1 sectors, or a
+/// Whether a line is striped and has no column or more than 128, a chunk of 0 or more than 2^32 - 1 sectors, or a
 /// length that isn't a multiple of columns times chunk.
 pub(crate) fn has_bad_stripes(line: &Line, target: &ResolvedTarget) -> bool
     ensures { (stack : Description) → target.now ≡ resolved_target stack line.now.target

@@ -1,7 +1,7 @@
 //! Claims: the lower sectors that each line of a stack relies on.
 //!
-//! A line claims its spans, so a target needs no code for claims beside saying what it names. If a new target
-//! shares what it names in another way, add a variant to `Use` (`dm_table`), and arms in `may_share` here and in
+//! A line claims its spans, so a new target needs no code for claims except for its spans. If a new target shares
+//! sectors in another way, add a variant to `Use` (`dm_table`), and arms in `may_share` and in the functions of
 //! `reach`.
 
 ghost use Rattle.dm_stack.specs.Prelude.{[], ℕ, IfOk, OnOk, false, length, map, not, All, flat_map, list_any, slice_index_or, resolved_device, claims, may_share, is_device, is_named, line_names, is_past, line_claims};
@@ -38,8 +38,8 @@ pub(crate) fn may_share(one: Use, other: Use) -> bool
 /// Collects all claims of a stack, in the order of devices and lines, and then of columns, or store before
 /// origin.
 ///
-/// No line may pass the end of what it names. Fails only when out of memory. Cost: linear in the lines and their
-/// columns.
+/// No line may pass the end of a device or disk that it names. Fails only when out of memory. Cost: linear in the
+/// lines and their columns.
 pub(crate) fn claims(alloc: Global, stack: &Resolved) -> Result<Vec<Claim>, AllocError>
     requires { All (λ device. All (λ line. passes_end stack.now line ≡ false) device.table)
         (map (resolved_device stack.now) stack.now.devices) }
@@ -85,7 +85,7 @@ fn add_line(
     Ok(())
 }
 
-/// Adds the claim of a device for one span, which must lie within what it names.
+/// Adds the claim of a device for one span, which must lie within its lower device or disk.
 fn add_claim(
     claims: &mut Vec<Claim>,
     stack: &Resolved,
@@ -110,7 +110,7 @@ fn add_claim(
     Ok(())
 }
 
-/// For each device with an id below `devices`, whether no claim is on it.
+/// For each device with an id below `devices`, whether no claim is on the device.
 ///
 /// Fails only when out of memory. Cost: linear in the claims and in `devices`.
 pub(crate) fn unclaimed(
@@ -173,7 +173,7 @@ fn line_names(line: &ResolvedLine, device: DeviceId) -> bool
     false
 }
 
-/// Whether the lower device or disk is this device.
+/// Whether `to` is the device with the id `device`.
 fn is_device(to: Lower, device: DeviceId) -> bool
     ensures { result ≡ is_device device to }
 {

@@ -8,7 +8,7 @@ pub struct Clash {
     pub lower: Lower,
     /// The least sector that both claims include.
     pub sector: u64,
-    /// The device of the claim that comes first in the stack's order; `second` is that of the other.
+    /// The device of the claim that comes first in the stack's order; `second` is the device of the other claim.
     pub first: DeviceId,
     pub second: DeviceId,
 }

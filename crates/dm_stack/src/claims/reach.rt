@@ -1,7 +1,7 @@
 //! How far claims reach on each lower device and disk.
 //!
-//! If claims are visited in the order of their starts, the greatest ends so far are all that is needed: a claim
-//! that starts below one of them clashes with an earlier claim.
+//! If claims are visited in the order of their starts, only the greatest ends so far are needed, because a claim
+//! that starts before one of these ends clashes with an earlier claim.
 
 ghost use Rattle.dm_stack.specs.Prelude.{IfOk, length, is_same_lower, IsCounted, no_reach, reach_at, reach_meets, reach_with, Lower};
 ghost use Rattle.std.specs.Prelude.{◌≡◌, if◌then◌else◌};
@@ -11,10 +11,10 @@ use crate::id::Lower;
 use dm_table::Use;
 use std::alloc::{AllocError, Global};
 
-/// The greatest ends of some claims on one device or disk, or 0 if there are none.
+/// The greatest ends of claims of each kind on one device or disk; 0 for a kind without claims.
 #[derive(Clone, Copy, Drop)]
 pub(crate) struct Reach {
-    /// The greatest end of claims that share with no other.
+    /// The greatest end of claims that share sectors with no other claim.
     own: u64,
     /// The greatest end of claims that do more than read.
     held: u64,
@@ -41,7 +41,7 @@ impl Reach {
         }
     }
 
-    /// Whether a claim clashes with one of these claims, none of which starts after it.
+    /// Whether a claim clashes with one of the claims of this reach, none of which may start after the claim.
     pub(crate) fn meets(self, claim: &Claim) -> bool
         ensures { result ≡ reach_meets self claim.now }
     {

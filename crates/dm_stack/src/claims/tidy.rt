@@ -1,8 +1,8 @@
 //! The first clash of a stack's claims: the first claim that clashes with an earlier one.
 //!
-//! The claims are sorted by their starts once. Whether any of the first n claims clash is then found by a walk in
-//! that order, and binary search finds the greatest n for which none do: the next claim is the first that clashes
-//! with an earlier one.
+//! The claims are sorted by their starts once. A walk in that order then finds out whether any of the first n
+//! claims clash, and a binary search finds the greatest n for which none do. The next claim is the first that
+//! clashes with an earlier one.
 
 ghost use Rattle.dm_stack.specs.Prelude.{IfOk, Some, false, length, slice_get, take, true, All, IsNonDecreasingBy, IsPermutation, IsFirstClash, is_same_lower, Claim, IsCounted, clash_with, is_tidy_to, meets, numbered};
 ghost use Rattle.std.specs.Prelude.{◌≡◌, ◌+◌, ◌<◌};
@@ -13,15 +13,15 @@ use crate::claims::reach::Reaches;
 use crate::id::Lower;
 use std::alloc::{AllocError, Global};
 
-/// A claim, with its number in the list of the stack's claims.
+/// A claim and its number in the list of the stack's claims.
 #[derive(Clone, Copy, Drop)]
 pub(crate) struct Numbered {
     number: usize,
     claim: Claim,
 }
 
-/// Finds the clash of these claims, on devices and disks with ids below these counts; None exactly if no two of
-/// them clash.
+/// Finds the first clash of these claims, on devices and disks with ids below these counts; None exactly if no
+/// two claims clash.
 ///
 /// Fails only when out of memory. Cost: sorting the claims, and a walk over them for each binary digit of their
 /// number, with memory for a copy of each.
@@ -42,7 +42,7 @@ pub(crate) fn first_clash(
     Ok(clash_at(claims, tidy))
 }
 
-/// The claims with their numbers, sorted by their starts.
+/// The claims with their numbers, sorted by the starts of the claims.
 fn in_order(alloc: Global, claims: &[Claim]) -> Result<Vec<Numbered>, AllocError>
     ensures same { IfOk result (λ order. IsPermutation (numbered 0 claims.now) order.items) }
     ensures sorted { IfOk result (λ order. IsNonDecreasingBy (λ next. next.claim.start) order.items) }
@@ -80,7 +80,7 @@ fn is_tidy_to(
     Ok(true)
 }
 
-/// The greatest count such that no two claims with numbers below it clash; some of the claims must.
+/// The greatest count for which no two claims with numbers below the count clash. Some two claims must clash.
 fn tidy_len(
     alloc: Global,
     order: &[Numbered],

@@ -1,9 +1,9 @@
-//! Chunk sizes of snapshots: powers of two, so mapping shifts and masks instead of dividing by them.
+//! Chunk sizes of snapshots, which are powers of two, so mapping shifts and masks instead of dividing.
 //!
-//! A small request to a snapshot would take six divisions, which were a tenth of its time.
+//! A small request to a snapshot would otherwise take six divisions, a tenth of the request's time.
 //!
-//! This is here for speed alone: RESULTS.md has its gain as *chunk sizes by their exponent*. It relies on sizes
-//! being powers of two, which a load checks. If you change it, measure random first writes before and after.
+//! This is here for speed alone: RESULTS.md lists the gain as *chunk sizes by their exponent*. Sizes must be
+//! powers of two, which a load checks. If you change it, measure random first writes before and after.
 
 ghost use Rattle.dm_stack.specs.Prelude.{is_bad_chunk, fit_chunk};
 ghost use Rattle.dm_stack.specs.declared.checks.limits.TheConstants.{MOST_SNAPSHOT_CHUNK};
@@ -12,7 +12,8 @@ ghost use Rattle.std.specs.Prelude.{◌≡◌, ◌*◌, ◌/◌, ◌%◌, ◌<�
 use crate::checks::limits::MOST_SNAPSHOT_CHUNK;
 use std::marker::Model;
 
-/// The number of sectors in a snapshot's chunks: a power of two from 1 to 1,024. Contracts see it as that number.
+/// The number of sectors in a snapshot's chunks: a power of two from 1 to 1,024. Contracts see a `ChunkSize` as
+/// this number.
 #[derive(Clone, Copy, Debug, Drop)]
 pub struct ChunkSize {
     /// The exponent: a chunk has 2^shift sectors.
@@ -35,7 +36,7 @@ impl Model for ChunkSize {
 }
 
 impl ChunkSize {
-    /// The size of a chunk of this many sectors; 1 if a load refuses that number.
+    /// The chunk size with this many sectors, or with 1 if a load refuses that number.
     #[tactic(auto, using(crate::proofs::checks::ChunkLemmas::chunk_within, crate::proofs::lines::ChunkSizes::exponent_of))]
     pub(crate) fn new(sectors: u64) -> ChunkSize
         ensures { result ≡ fit_chunk sectors }
@@ -67,7 +68,7 @@ impl ChunkSize {
         sector >> self.shift
     }
 
-    /// How many sectors of its chunk come before this sector.
+    /// How many sectors come before this sector in its chunk.
     #[tactic(auto, using(crate::proofs::lines::ChunkSizes::masked))]
     #[inline(always)]
     pub fn distance_in(self, sector: u64) -> u64
@@ -77,7 +78,7 @@ impl ChunkSize {
         sector & ((1u64 << self.shift) - 1)
     }
 
-    /// How many metadata areas this many chunk numbers fill: an area is one chunk, with 32 numbers to a sector.
+    /// How many metadata areas this many chunk numbers fill: an area is a chunk of 32 numbers per sector.
     #[tactic(auto, using(crate::proofs::lines::ChunkSizes::areas))]
     #[inline(always)]
     pub(crate) fn full_areas(self, numbers: u64) -> u64

@@ -1,17 +1,16 @@
-//! Numbers that are often divided by: the division is a multiplication by a precomputed inverse.
+//! Divisors that are used often, so that a division is a multiplication by a precomputed inverse.
 //!
-//! A range on stripes takes two divisions at each level that it passes, which were a sixth of the time of such a
-//! request.
+//! A range on stripes needs two divisions at each level that it passes, otherwise a sixth of the request's time.
 //!
-//! This is here for speed alone; RESULTS.md has such requests as those *through 8 levels of stripes and lines*.
-//! It relies on the inverse being at most one too small, so that the quotient is, too, and is corrected once. If
-//! you change it, measure these requests before and after.
+//! This is here for speed alone; RESULTS.md lists these requests as *through 8 levels of stripes and lines*. The
+//! code relies on the inverse being at most one too small, so that the quotient is, too, and needs only one
+//! correction. If you change it, measure these requests before and after.
 
 ghost use Rattle.std.specs.Prelude.{◌≡◌, ◌+◌, ◌*◌, ◌^◌, ◌/◌, ◌%◌, ◌<◌, ◌≤◌};
 
 use std::marker::Model;
 
-/// A number to divide by. Contracts see it as that number.
+/// A number to divide by. Contracts see a `Divisor` as this number.
 #[derive(Debug, Drop)]
 pub struct Divisor {
     value: u64,
@@ -32,7 +31,7 @@ impl Model for Divisor {
 }
 
 impl Divisor {
-    /// Makes a divisor of any number; dividing requires one that isn't 0.
+    /// Makes a divisor from any number; dividing requires that the number isn't 0.
     pub(crate) fn new(value: u64) -> Divisor
         ensures { result ≡ value }
     {
@@ -53,7 +52,7 @@ impl Divisor {
         self.value
     }
 
-    /// The quotient and the remainder of `number` divided by this.
+    /// The quotient and the remainder of `number` divided by this divisor.
     #[tactic(auto, using(crate::proofs::lines::Inverses::divided))]
     #[inline(always)]
     pub(crate) fn divide(&self, number: u64) -> (u64, u64)

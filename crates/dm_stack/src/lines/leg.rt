@@ -1,8 +1,8 @@
-//! Legs: runs of a line's sectors with one thing below them, such as consecutive sectors, zeros or errors.
+//! Legs: runs of a line's sectors with one thing below, such as consecutive sectors, zeros or errors.
 //!
-//! This module decides what a target without state does with its sectors; only stripes, in `legs`, have more than
-//! one leg. A walk goes down leg by leg, and looks at what lies below a leg, not at the target. To add a target,
-//! add an arm to `leg`.
+//! This module decides what a target without state does with its sectors; only striped lines (`legs`) have more
+//! than one leg. A walk goes down leg by leg, and depends on what lies below a leg, not on the target. To add a
+//! target, add an arm to `leg`.
 
 ghost use Rattle.dm_stack.specs.Prelude.{ℕ, IsTargetSound, Description, AreInside, HasSectors, IsLeg, LiesOnDisk};
 ghost use Rattle.std.specs.Prelude.{◌≡◌, ◌+◌, ◌≤◌};
@@ -13,19 +13,19 @@ use crate::lines::resolved_line::{ResolvedOrigin, ResolvedSnapshot, ResolvedTarg
 /// What lies below the sectors of a leg.
 #[derive(Clone, Copy, Drop)]
 pub enum Beneath<'l> {
-    /// The sectors of a device or a disk, from this one on.
+    /// Consecutive sectors of a device or a disk, from `sector` on.
     Lies { to: Lower, sector: u64 },
-    /// Nothing: reads return zeros, writes are discarded.
+    /// No sectors: reads return zeros, and writes are discarded.
     Zeros,
-    /// Nothing: every request fails.
+    /// No sectors: every request fails.
     Errors,
-    /// A snapshot, whose state says where each of its sectors lies.
+    /// A snapshot, whose state determines where each of its sectors lies.
     Snapshot(&'l ResolvedSnapshot),
-    /// The sectors of what this origin names; before a write, the origin's snapshots take their chunks.
+    /// The sectors that this origin's line names; before a write, the origin's snapshots take their chunks.
     Origin(&'l ResolvedOrigin),
 }
 
-/// Consecutive sectors of a line, `len` of them, with one thing below all of them.
+/// A run of `len` consecutive sectors of a line, and what lies below them.
 #[derive(Clone, Copy, Drop)]
 pub struct Leg<'l> {
     pub below: Beneath<'l>,
@@ -33,7 +33,7 @@ pub struct Leg<'l> {
 }
 
 impl<'l> Leg<'l> {
-    /// The disk that the leg lies on, and its first sector there.
+    /// The disk that the leg lies on, and the sector of the disk at which it starts.
     #[inline(always)]
     pub fn on_disk(&self) -> (DiskId, u64)
         requires { LiesOnDisk self.now.below }
@@ -51,11 +51,10 @@ impl<'l> Leg<'l> {
 }
 
 impl ResolvedTarget {
-    /// The leg at a distance into a line with this target: its length, at most `most`, and what lies below it.
-    /// A leg ends at the end of a stripe's chunk; for any other target, one leg covers all the sectors. Where the
-    /// sectors of a snapshot lie, and what a write to an origin does first, depends on the state. No memory is
-    /// allocated.
-    /// is taken.
+    /// The leg at a distance into a line with this target: its length, at most `most`, and what lies below it. In
+    /// a striped line, a leg ends where a chunk ends; for any other target, one leg covers all the sectors. Where
+    /// the sectors of a snapshot lie, and what a write to an origin does first, depends on the state. No memory
+    /// is allocated.
     #[inline(always)]
     pub fn leg(&self, distance: u64, most: u64) -> Leg<'_>
         requires some { 1 ≤ most }

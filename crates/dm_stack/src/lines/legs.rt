@@ -1,11 +1,11 @@
 //! An iterator over the legs of a part of a striped line.
 //!
-//! A leg is the remainder of a chunk, or ends earlier with the part. Its position follows from that of the leg
-//! before without a division, and the target is read only once, so a loop over legs keeps it in registers.
+//! A leg is the remainder of a chunk, or ends with the part if that ends earlier. Its position is computed from
+//! the previous leg's, without a division. The target is read once, so a loop over legs keeps it in registers.
 //!
-//! This is here for speed alone, since `ResolvedTarget::leg` finds each leg, too: RESULTS.md has its gain as
-//! *rows of legs* and *legs on disks in one go*. It relies on `next_stripe_chunk` advancing a position to the one
-//! that `position_at` would find. If you change it, measure large requests over 16 columns before and after.
+//! This is here for speed alone, since `ResolvedTarget::leg` finds each leg, too: RESULTS.md lists the gain as
+//! *rows of legs* and *legs on disks in one go*. It relies on `next_stripe_chunk` returning the position that
+//! `position_at` would find. If you change it, measure large requests over 16 columns before and after.
 
 ghost use Rattle.dm_stack.specs.Prelude.{true, IfNone, IfSome, is_striped, after_leg, has_disk_columns, HasSectors, IsLeg};
 ghost use Rattle.std.specs.Prelude.{◌≡◌};

@@ -1,16 +1,16 @@
 //! Finding the line of a sector by binary search over the starts of a device's lines.
 //!
-//! Lines are found nowhere else, and each comparison of a start with the sector is a call of `starts_by`, which
-//! counts it. A search covers the lines of the sector's bucket (`resolved_table`), of which the first is never
-//! compared, since it starts at the sector or before. In a device of more than three lines, the line found last
-//! is remembered, with its end. If the next sector looked for is that end, as in a range over many lines, it is
-//! in the next line. That is tested once per search, on the sector alone, without looking at a line or counting a
+//! No other module finds lines, and each comparison of a start with the sector is counted by `starts_by`. A
+//! search covers the lines of the sector's bucket (`resolved_table`); the first of these is never compared, since
+//! it starts at the sector or before. In a device of more than three lines, the line found last is remembered,
+//! with its end. If the next sector looked for is that end, as in a range over many lines, the sector is in the
+//! next line. This is tested once for each search, on the sector alone, without reading a line or counting a
 //! comparison.
 //!
 //! The branch-free search among few lines, and remembering the last line, are here for speed alone: `search`
-//! finds any line. RESULTS.md has the requests that gain as those *through 8 levels of stripes and lines*. The
-//! last line relies on its end, which is past every device if there is none. If you change these, measure such
-//! requests, and random ones on 65,536 lines, before and after.
+//! finds any line. RESULTS.md lists the requests that gain as *through 8 levels of stripes and lines*. If there
+//! is no last line, its end must be past every device. If you change these, measure those requests, and random
+//! ones on 65,536 lines, before and after.
 
 ghost use Rattle.dm_stack.specs.Prelude.{length, nat_le, EndsAt, Finds, EndsAreSmall, StartsAfter, StartsBy};
 ghost use Rattle.std.specs.Prelude.{◌≡◌, ◌⊎◌, ◌<◌, ◌≤◌, ◌+◌, ◌^◌};
@@ -19,7 +19,7 @@ use crate::id::DeviceId;
 use crate::lines::resolved_line::ResolvedLine;
 use crate::lines::resolved_table::ResolvedTable;
 
-/// The line that was found last: its device, its index there, and the sector after its end.
+/// The line that was found last: its device, its index in the device, and its end, the sector after its last one.
 #[derive(Clone, Copy)]
 pub(crate) struct LastLine {
     device: DeviceId,
@@ -28,7 +28,7 @@ pub(crate) struct LastLine {
 }
 
 impl LastLine {
-    /// The value before any search: its end is past every device, so that no sector matches it.
+    /// The value before any search, whose end is past every device, so that no sector equals the end.
     pub(crate) fn none() -> LastLine
         ensures { result.end + 1 ≡ 2 ^ 64 }
     {
@@ -43,7 +43,7 @@ impl LastLine {
 /// Finds the last line of a device that starts at the sector or before. Returns its index, and how many starts
 /// were compared with the sector.
 ///
-/// Records the line as the last one, unless the device has three lines or fewer.
+/// Records the line as the one found last, unless the device has at most three lines.
 pub(crate) fn find(
     table: &ResolvedTable,
     device: DeviceId,
@@ -66,8 +66,8 @@ pub(crate) fn find(
     }
 }
 
-/// Finds the line of a sector among at most three lines. It has no branch on where the sector is, because with
-/// few lines such a branch is hard to predict.
+/// Finds the line of a sector among at most three lines, without a branch that depends on the sector, because
+/// among few lines it would be hard to predict.
 #[inline(always)]
 fn find_of_few(lines: &[ResolvedLine], sector: u64) -> (usize, u64)
     requires first { StartsBy lines.now 0 sector }
@@ -101,7 +101,7 @@ fn starts_by(start: u64, sector: u64, comparisons: &mut u64) -> bool
     start <= sector
 }
 
-/// Finds the line of a sector among many lines. Not inlined, so as not to slow down devices with few.
+/// Finds the line of a sector among many lines. Not inlined, so that look-ups among few lines stay fast.
 #[inline(never)]
 fn find_among(
     table: &ResolvedTable,
@@ -128,7 +128,7 @@ fn find_among(
     (index, comparisons)
 }
 
-/// The line after the last one, if the sector comes right after that; else the line that a search finds.
+/// The line after the one found last, if the sector is the end of the latter; else the line that a search finds.
 fn after_last(table: &ResolvedTable, device: DeviceId, last: &LastLine, sector: u64) -> (usize, u64)
     requires first { StartsBy table.now 0 sector }
     requires follows { last.now.device ≡ device → last.now.end ≡ sector
@@ -136,7 +136,7 @@ fn after_last(table: &ResolvedTable, device: DeviceId, last: &LastLine, sector: 
     ensures { Finds table.now sector result }
 {
     if last.end == sector && last.device == device {
-        // The last line is in the table, so adding 1 to its index can't overflow.
+        // The line found last is in the table, so adding 1 to its index can't overflow.
         let lines = table.lines();
         prove!(last.index < lines.len());
         return (last.index + 1, 0);

@@ -1,7 +1,8 @@
 //! The snapshots of each origin, which are stored with the origin's line.
 //!
 //! All snapshots of a stack are collected once per load. Each origin line has its own copy of the origin's
-//! snapshots, so that a write needs no search for them; a snapshot's line reuses the entry collected for it.
+//! snapshots, so that a write needs no search for them; a snapshot's line reuses the entry collected for the
+//! snapshot.
 
 ghost use Rattle.dm_stack.specs.Prelude.{IfOk, IfSome, OnOk, filter, Contains, flat_map, list_any, is_same_lower, all_over, copied, has_crowd, is_whole, over_of, resolved_snapshot};
 ghost use Rattle.std.specs.Prelude.{◌≡◌, ◌++◌};
@@ -27,7 +28,7 @@ fn all_over(alloc: Global, stack: &Indexed) -> Result<Vec<ResolvedOver>, AllocEr
 }
 
 /// The snapshots for origin lines to copy; none if a snapshot or an origin isn't the only line of its table,
-/// which a load refuses. Otherwise there could be as many copies as the square of the number of lines.
+/// which a load refuses. Without this rule, there could be as many copies as the square of the number of lines.
 ///
 /// Fails only when out of memory. Cost: two walks over the lines, with memory for each snapshot.
 pub(crate) fn copied(alloc: Global, stack: &Indexed) -> Result<Vec<ResolvedOver>, AllocError>
@@ -112,10 +113,10 @@ pub(crate) fn resolved_snapshot(
     }
 }
 
-/// The snapshot that a device is, if it is the next in this list, which is in the order of devices; `next` then
-/// advances.
+/// The snapshot that a device is, if that snapshot is the next in this list, which is in the order of devices;
+/// `next` then advances.
 ///
-/// This is here for speed alone: if it returns None, the names in the device's line are looked up.
+/// The function is here for speed alone: if it returns None, the names in the device's line are looked up.
 pub(crate) fn snapshot_of_next<'a>(
     over: &'a [ResolvedOver],
     next: &mut usize,
@@ -132,9 +133,9 @@ pub(crate) fn snapshot_of_next<'a>(
     Some(&one.snapshot)
 }
 
-/// Those of all snapshots whose origin is this device or disk.
+/// The snapshots of the given list whose origin is this device or disk.
 ///
-/// Fails only when out of memory. Cost: a walk over all snapshots, with memory for those found.
+/// Fails only when out of memory. Cost: a walk over the list, with memory for the snapshots found.
 pub(crate) fn snapshots_over(
     alloc: Global,
     all: &[ResolvedOver],

@@ -1,8 +1,8 @@
 //! Gives lines ids in place of names. Each name is looked up once, or twice in a load that is refused later.
 //!
-//! Lines get ids right after the names are checked. An unknown name isn't refused here: it gets an id past the
-//! last, which `names_missing` finds. No later check looks a name up. To add a target, add an arm to `target`
-//! here and to `resolved_target` in the specs.
+//! Lines get ids right after the names are checked. An unknown name isn't refused here, but gets an id past the
+//! last one, which `names_missing` finds. No later check looks up a name. To add a target, add an arm to `target`
+//! and to `resolved_target` in the specs.
 
 ghost use Rattle.dm_stack.specs.Prelude.{IfOk, IfSome, map, All, resolved_columns, resolved_line, resolved_target, resolved_device, IsSnapshotOf, copied};
 ghost use Rattle.std.specs.Prelude.{◌≡◌};
@@ -46,8 +46,8 @@ pub(crate) fn resolved_devices(
     Ok(found)
 }
 
-/// Makes the lines of a device with ids. `over` is all snapshots for origins to copy, `own` the device's own
-/// snapshot.
+/// Makes the lines of a device with ids. `over` contains all snapshots for origins to copy; `own` is the device's
+/// own snapshot.
 fn table(
     alloc: Global,
     stack: &Indexed,
@@ -72,7 +72,7 @@ fn table(
     ResolvedTable::from_vec(alloc, by_ids)
 }
 
-/// Makes a target with ids. For a snapshot it is `own`, if that was collected.
+/// Makes a target with ids. The result for a snapshot is `own`, if that isn't None.
 fn target(
     alloc: Global,
     stack: &Indexed,

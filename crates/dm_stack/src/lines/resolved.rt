@@ -1,7 +1,7 @@
-//! A stack's description together with its lines with ids, so that the checks of references, depths and claims
-//! look up no name.
+//! A stack's description and its lines with ids, so that the checks of references, depths and claims look up no
+//! names.
 //!
-//! Contracts see only the description; the invariant says that the lines with ids are its lines.
+//! Contracts see only the description; the invariant states that the lines with ids are the description's lines.
 
 ghost use Rattle.dm_stack.specs.Prelude.{map, described, lower_len, resolved_device, is_missing};
 ghost use Rattle.std.specs.Prelude.{◌≡◌};
@@ -34,7 +34,7 @@ impl<'a> Model for Resolved<'a> {
 }
 
 impl<'a> Resolved<'a> {
-    /// Joins devices and disks with the devices with ids.
+    /// Joins the devices and disks of a description with the devices with ids.
     pub(crate) fn new(
         devices: &'a [DeviceSpec],
         disks: &'a [Disk],

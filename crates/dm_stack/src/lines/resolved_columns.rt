@@ -11,7 +11,7 @@ use dm_table::{Listed, ReservedBox};
 use std::alloc::{AllocError, Global};
 use std::marker::Model;
 
-/// A column of a striped line: the device or disk, and the column's first sector there.
+/// A column of a striped line: its device or disk, and the sector at which the column starts on it.
 #[derive(Clone, Copy, Debug, Drop)]
 pub struct ResolvedColumn {
     pub to: Lower,

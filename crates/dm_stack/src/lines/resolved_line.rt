@@ -1,7 +1,7 @@
 //! Lines of a table as a look-up returns them, with ids in place of names.
 //!
-//! A load looks each name up, so mapping never compares texts. To add a target, add a variant here, arms in
-//! `specs/lines/Below.antt`, and an arm in `resolve`, which makes these lines.
+//! A load looks up all names, so mapping never compares names. To add a target, add a variant to
+//! `ResolvedTarget`, arms in `specs/lines/Below.antt`, and an arm in `resolve`, which makes these lines.
 
 use crate::id::{DeviceId, Lower};
 use crate::lines::chunk_size::ChunkSize;
@@ -20,18 +20,18 @@ pub struct ResolvedLine {
     pub target: ResolvedTarget,
 }
 
-// A line fits into one cache line; if it were larger, every look-up would be slower.
+// A line fits into one cache line, because a larger one would make every look-up slower.
 const _: () = prove!(std::mem::size_of::<ResolvedLine>() == 64);
 
 /// What a line does with its sectors. Offsets and chunks are in sectors of 512 bytes.
 #[derive(Debug, Drop)]
 pub enum ResolvedTarget {
-    /// Its sectors are those of a lower device or disk, from an offset on.
+    /// The line's sectors are those of a lower device or disk, from an offset on.
     Linear {
         to: Lower,
         offset: u64,
     },
-    /// Its sectors are spread over the columns in chunks, in turn.
+    /// The line's sectors are spread over the columns in turn, chunk by chunk.
     Striped {
         chunk: Divisor,
         columns: ResolvedColumns,
@@ -57,15 +57,15 @@ pub struct ResolvedSnapshot {
 
 const _: () = prove!(std::mem::size_of::<ResolvedSnapshot>() == 40);
 
-/// An origin: the device or disk that it covers, and all snapshots of that, in the order of their devices, so
-/// that a write finds them without a search.
+/// An origin: the device or disk that it covers, and all snapshots of the latter, in the order of their devices,
+/// so that a write finds the snapshots without a search.
 #[derive(Debug, Drop)]
 pub struct ResolvedOrigin {
     pub to: Lower,
     pub over: Listed<ResolvedOver>,
 }
 
-/// A snapshot of an origin, and the device that it is.
+/// A snapshot of an origin, and the id of the snapshot's device.
 #[derive(Clone, Copy, Debug, Drop)]
 pub struct ResolvedOver {
     pub device: DeviceId,

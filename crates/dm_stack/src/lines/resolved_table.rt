@@ -1,14 +1,14 @@
-//! The lines of a device, and which of them a search for a sector covers.
+//! The lines of a device, and which of these lines a search for a sector covers.
 //!
 //! A device's end and its read-only flag are kept with its lines, so that a request finds all three in one place.
 //!
 //! The sectors up to the start of the last line are cut into equal buckets, with one or two lines each on
 //! average. For each bucket, the line of its first sector is stored; a search covers the lines from that one to
-//! the line of the next bucket's first sector, which are usually few.
+//! the line of the next bucket's first sector, usually a few lines.
 //!
-//! Buckets and reading ahead are here for speed alone: RESULTS.md has their gain as *finer buckets, four lines
+//! Buckets and prefetching are here for speed alone: RESULTS.md lists their gain as *finer buckets, four lines
 //! read ahead*. Buckets rely on `AreFirsts`; without buckets, all lines are searched. If you change them, measure
-//! random requests on 65,536 lines, and loading those, before and after.
+//! random requests on 65,536 lines, and a load of as many lines, before and after.
 
 ghost use Rattle.dm_stack.specs.Prelude.{IfOk, length, AreFirsts, IsStartOf, StartsAfter, StartsBy};
 ghost use Rattle.std.specs.Prelude.{◌≡◌, ◌+◌, ◌^◌, ◌<◌, ◌≤◌};
@@ -52,7 +52,7 @@ pub(crate) struct ResolvedDevice {
 impl ResolvedTable {
     /// Makes a table of these lines, with buckets. Fails only when out of memory.
     ///
-    /// Cost: linear in the lines, with memory for 1 to 2 bytes per line.
+    /// Cost: linear in the lines, with memory for 1 to 2 bytes for each line.
     pub(crate) fn from_vec(
         alloc: Global,
         lines: Vec<ResolvedLine>,
@@ -99,13 +99,13 @@ impl ResolvedTable {
         }
     }
 
-    /// Whether the lines are in buckets; if there are few, they are compared one by one instead.
+    /// Whether the lines are in buckets; a device with few lines has none, and its lines are compared one by one.
     pub(crate) fn has_buckets(&self) -> bool {
         !self.firsts.as_slice().is_empty()
     }
 
-    /// A number computed from the starts of the lines that a search for this sector begins with, if lines are in
-    /// buckets.
+    /// A number computed from the starts of the lines that a search for this sector compares first, if lines are
+    /// in buckets.
     #[inline(always)]
     pub(crate) fn starts_ahead(&self, sector: u64) -> Option<u64> {
         let bucket = sector.wrapping_shr(self.shift) as usize;
@@ -123,8 +123,8 @@ impl ResolvedTable {
     }
 }
 
-/// A number computed from the starts of four consecutive lines: a search in a bucket usually looks at two, and a
-/// request longer than a line goes on to the next.
+/// A number computed from the starts of four consecutive lines, since a search in a bucket usually compares two,
+/// and a request longer than a line continues in the next.
 #[inline(always)]
 fn starts_from(lines: &[ResolvedLine], first: usize) -> u64 {
     match lines.get(first..) {
@@ -135,8 +135,8 @@ fn starts_from(lines: &[ResolvedLine], first: usize) -> u64 {
     }
 }
 
-/// The line of each bucket's first sector, and the exponent of the bucket size. There are no buckets for three
-/// lines or fewer, which are compared one by one, or for lines that a load refuses.
+/// The line of each bucket's first sector, and the exponent of the bucket size. There are no buckets for up to
+/// three lines, which are compared one by one, or for lines that a load refuses.
 fn firsts_of(alloc: Global, lines: &[ResolvedLine]) -> Result<(Reserved<u16>, u32), AllocError>
     ensures { IfOk result (λ found. AreFirsts lines.now found.0.items found.1) }
 {
@@ -146,7 +146,7 @@ fn firsts_of(alloc: Global, lines: &[ResolvedLine]) -> Result<(Reserved<u16>, u3
     }
     let end = lines[count - 1].start.min(MOST_LENGTH);
     let shift = (end / (count / 2) as u64).checked_ilog2().unwrap_or(0);
-    // One more bucket follows the one in which the last line starts, for the sectors after that.
+    // After the bucket in which the last line starts, one more bucket holds all sectors after that bucket.
     let buckets = (end >> shift) as usize + 2;
     let mut firsts = Reserved::from_vec(Vec::with_capacity(alloc, buckets)?);
     let mut index = 0;
@@ -162,7 +162,7 @@ fn firsts_of(alloc: Global, lines: &[ResolvedLine]) -> Result<(Reserved<u16>, u3
     Ok((firsts, shift))
 }
 
-/// The start of the line with this index, or `u64::MAX`, past every sector, if there is none.
+/// The start of the line with this index, or `u64::MAX`, which is past every sector, if the line doesn't exist.
 #[inline(always)]
 fn start_of(lines: &[ResolvedLine], index: usize) -> u64
     ensures { IsStartOf lines.now index result }

@@ -1,8 +1,8 @@
 //! Spans: the devices and disks that a line with ids refers to, and which of their sectors it uses.
 //!
 //! References, ranges, cycles, depths and claims are all checked on spans, so these checks don't depend on
-//! targets. A new target says what it refers to here, in `span_at`, and in `target_spans` (`specs/lines/Span`,
-//! and for names `specs/tables/Span` of `dm_table`). No memory is allocated.
+//! targets. For a new target, add its spans to `span_at`, and to `target_spans` (`specs/lines/Span`, and for
+//! names `specs/tables/Span` of `dm_table`). No memory is allocated.
 
 ghost use Rattle.dm_stack.specs.Prelude.{IfSome, drop, length, map, slice_get, YieldsFirst, item_count, column_span, spans, whole_span};
 ghost use Rattle.std.specs.Prelude.{◌≡◌, ◌+◌, ◌/◌, ◌<◌, ◌^◌};
@@ -17,12 +17,12 @@ use dm_table::Use;
 pub(crate) struct Span {
     pub to: Lower,
     pub offset: u64,
-    /// The number of sectors; None for all of the device or disk.
+    /// The number of sectors, or None for the whole device or disk.
     pub len: Option<u64>,
     pub kind: Use,
 }
 
-/// An iterator over the spans of a line that it hasn't returned yet.
+/// An iterator over the spans of a line.
 #[derive(Drop)]
 pub(crate) struct Spans<'a> {
     line: &'a ResolvedLine,
@@ -53,7 +53,7 @@ impl<'a> Iterator for Spans<'a> {
     }
 }
 
-/// The span with this index, if the line has so many.
+/// The span of a line with this index, if it exists.
 fn span_at(line: &ResolvedLine, index: usize) -> Option<Span>
     ensures span { result ≡ slice_get (spans line.now) index }
     ensures within { IfSome result (λ _. index + 1 < 2 ^ 64) }

@@ -1,9 +1,9 @@
 //! The layout of an exception store by its kind: which of its chunks hold taken chunks, how many there can be,
 //! and how much of the store is used.
 //!
-//! A transient store holds taken chunks from its first chunk on, and nothing else. Any other store begins with a
-//! header and a metadata area, and another area follows after every 32 * chunk data chunks (as in the kernel's
-//! exception store). Nothing else in this crate or in those above it distinguishes kinds of stores to find a
+//! A transient store contains only taken chunks, from its first chunk on. Any other store begins with a header
+//! and a metadata area, and another metadata area follows after every 32 * chunk data chunks (as in the kernel's
+//! exception store). No other code in this crate, or in the crates above, distinguishes kinds of stores to find a
 //! place.
 
 ghost use Rattle.dm_stack.specs.Prelude.{ℕ, false, allocated, is_metadata, metadata, place, place_count, StoreKind};
@@ -12,8 +12,8 @@ ghost use Rattle.std.specs.Prelude.{◌≡◌, ◌↔◌, ◌+◌, ◌*◌, ◌<
 use crate::lines::chunk_size::ChunkSize;
 use dm_table::StoreKind;
 
-/// How many taken chunks of `chunk` sectors a store of this length in sectors has room for, beside the header and
-/// metadata areas of its kind. A taken chunk has a place exactly if its number, from 0, is below this.
+/// How many taken chunks of `chunk` sectors fit into a store of `store_len` sectors, beside its header and
+/// metadata areas. A taken chunk has a place exactly if its number, from 0, is below the result.
 ///
 /// Takes constant time, whatever the length.
 #[tactic(auto, using(crate::proofs::lines::StoreLayoutLemmas::has_place))]
@@ -43,8 +43,8 @@ pub fn place(kind: StoreKind, chunk: ChunkSize, number: u64) -> u64
     }
 }
 
-/// The used sectors of a store with this many taken chunks: all before the place of the next one. If a metadata
-/// area comes right before that place, this can be more than the store's length.
+/// The number of used sectors in a store with this many taken chunks: all before the place of the next chunk. If
+/// a metadata area comes right before that place, this can be more than the store's length.
 #[tactic(auto, using(crate::proofs::lines::StoreLayoutLemmas::place_within))]
 pub fn allocated(kind: StoreKind, chunk: ChunkSize, taken: u64) -> u64
     requires { allocated kind chunk taken < 2 ^ 63 }
@@ -54,7 +54,7 @@ pub fn allocated(kind: StoreKind, chunk: ChunkSize, taken: u64) -> u64
     place(kind, chunk, taken) * sectors
 }
 
-/// How many of the used sectors are the header and metadata areas.
+/// How many of a store's used sectors belong to the header and metadata areas.
 #[tactic(auto, using(crate::proofs::lines::StoreLayoutLemmas::used_parts))]
 pub fn metadata(kind: StoreKind, chunk: ChunkSize, taken: u64) -> u64
     requires { allocated kind chunk taken < 2 ^ 63 }

@@ -1,7 +1,7 @@
 //! Positions in a striped line: the column of a sector, and where in the column its chunk is.
 //!
-//! A sector's position takes divisions to find, but the position of the next chunk follows from it without any,
-//! so a row of chunks costs only the divisions of the first. Only this file knows which chunk is in which column.
+//! A sector's position takes divisions, but the next chunk's position is computed from it without any, so a run
+//! of chunks costs only the divisions of the first. Only this file knows which chunk is in which column.
 
 ghost use Rattle.dm_stack.specs.Prelude.{ℕ, IsStripePosition};
 ghost use Rattle.std.specs.Prelude.{◌≡◌, ◌+◌, ◌-◌, ◌<◌, ◌^◌};
@@ -9,7 +9,7 @@ ghost use Rattle.std.specs.Prelude.{◌≡◌, ◌+◌, ◌-◌, ◌<◌, ◌^�
 use crate::lines::divisor::Divisor;
 
 /// The position of a sector of a striped line: its column, where its chunk starts in that column, and how many
-/// sectors of the chunk come before it.
+/// sectors of the chunk come before the sector.
 #[derive(Clone, Copy, Drop)]
 pub(crate) struct StripePosition {
     pub(crate) column: usize,
@@ -43,8 +43,8 @@ pub(crate) fn position_at(chunk_size: &Divisor, count: &Divisor, distance: u64) 
     }
 }
 
-/// The position of the first sector of the next chunk: in the next column, or, after the last column, in the
-/// first one, a chunk further on.
+/// The position of the first sector of the next chunk, which is in the next column or, after the last column, a
+/// chunk further in the first column.
 pub(crate) fn next_stripe_chunk(
     chunk_size: u64,
     count: usize,

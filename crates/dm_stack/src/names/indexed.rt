@@ -1,7 +1,7 @@
-//! A stack's description together with indexes of its names.
+//! A stack's description and indexes of its names.
 //!
-//! Names are looked up here when lines get ids; no check looks any up. Contracts see only the description; the
-//! invariant says that the indexes are those of its names.
+//! Names are looked up only when lines get ids, and never in a check. Contracts see only the description; the
+//! invariant states that the indexes contain the description's names.
 
 ghost use Rattle.dm_stack.specs.Prelude.{map, All, described, lower_of, HaveSmallEnds};
 ghost use Rattle.std.specs.Prelude.{◌≡◌};
@@ -34,7 +34,7 @@ impl<'a> Model for Indexed<'a> {
 }
 
 impl<'a> Indexed<'a> {
-    /// Joins devices and disks with the indexes of their names.
+    /// Joins the devices and disks of a description with the indexes of their names.
     pub(crate) fn new(
         devices: &'a [DeviceSpec],
         disks: &'a [Disk],
@@ -62,7 +62,7 @@ impl<'a> Indexed<'a> {
         self.devices
     }
 
-    /// The device or disk with the name in a line, by its id; an id past the last if the name is unknown.
+    /// The id of the device or disk that a line names, or an id past the last one if the name is unknown.
     pub(crate) fn lower_of(&self, to: &DevRef) -> Lower
         ensures { result ≡ lower_of self.now to.now }
     {

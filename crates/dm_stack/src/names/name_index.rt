@@ -1,14 +1,14 @@
 //! An index of names, which numbers them 0, 1, 2 and so on in the order in which they are added.
 //!
-//! A look-up takes about the same time for any number of names. The last bytes of a name give a guess of its
-//! number, so that usually one name is compared and nothing is hashed. For a name at the front of a text, a table
-//! of places is searched, which holds keys of names; a short name is then compared by its key alone. The key
-//! gives the first place to look at; if other names are there, it is in one of the next. No proof relies on a
-//! guess or a place: if neither finds the name, the set of all names does. Contracts see an index as the list of
-//! its names, in the order in which they were added.
+//! A look-up takes about the same time for any number of names. The last bytes of a name yield a guess of its
+//! number, so that usually only one name is compared and the set isn't searched. For a name at the front of a
+//! text, a table of places, which contain keys of names, is searched; a short name is compared by its key alone.
+//! The key determines the first place to look at; if another name is in that place, the key is in one of the next
+//! places. No proof relies on a guess or a place, because if neither finds the name, the set of all names does.
+//! Contracts see an index as the list of its names, in the order in which they were added.
 //!
-//! Guesses and places are here for speed alone, since the set finds each name, too: RESULTS.md has their gain as
-//! *a name's number tried before its hash* and *requests read where they stand*. If you change them, measure
+//! Guesses and places are here for speed alone, since the set finds each name, too: RESULTS.md lists their gain
+//! as *a name's number tried before its hash* and *requests read where they stand*. If you change them, measure
 //! small requests, and loads of many lines, before and after.
 
 ghost use Rattle.dm_stack.specs.Prelude.{[], IfOk, IfSome, List, ℕ, Some, drop, get_or, length, not, position, take, list_any, code, is_same, ArePlaces, IsKeyOf, IsPlaceOf};
@@ -24,16 +24,16 @@ use std::marker::Model;
 /// The number of entries in the table of guesses: four for each device or disk that a stack may have.
 const GUESSES: usize = 4096;
 
-/// How many places, from the first one of a key on, may hold a name with that key.
+/// How many consecutive places, from the first place of a key on, may contain that key.
 const TRIES: usize = 8;
 
 /// How many bytes of a text are searched for the space after a name.
 const LONGEST: usize = 128;
 
-/// The length in the key of an empty place, which no name has.
+/// The length in the key of an empty place; no name has this length.
 const NO_NAME: usize = LONGEST;
 
-/// The greatest exponent for the number of first places: 2^13 is eight for each of 1,024 names.
+/// The greatest exponent for the number of first places: 2^13 places are eight for each of 1,024 names.
 const MOST_DIGITS: u32 = 13;
 
 /// An entry of the table of places: the key of a name, and its number.
@@ -47,7 +47,7 @@ pub(crate) struct Place {
 #[derive(Drop)]
 pub(crate) struct NameIndex {
     names: IndexSet<String>,
-    /// For each guess, the number of a name with that guess, the last one added.
+    /// For each guess, the number of the name with that guess that was added last.
     guesses: Vec<u16>,
     places: Vec<Place>,
     /// How far a key's product is shifted right to get the index of its first place.
@@ -82,9 +82,9 @@ impl NameIndex {
         })
     }
 
-    /// Adds a name after the others unless it is in the index already; returns whether it was new.
+    /// Adds a name after the others, unless the index contains it already; returns whether the name was new.
     ///
-    /// Cost: about the same at any number of names, with memory for a copy of the name.
+    /// Cost: about the same for any number of names, with memory for a copy of the name.
     pub(crate) fn add(&mut self, alloc: Global, name: &str) -> Result<bool, AllocError>
         ensures new { IfOk result (λ new. new ≡ not (list_any (λ other. is_same other name.now) self.old)) }
         ensures added { IfOk result
@@ -122,7 +122,7 @@ impl NameIndex {
         self.names.get_index_of(name)
     }
 
-    /// The number and the length of the name at the front of a text, which ends at a space. `None` says nothing
+    /// The number and the length of the name at the front of a text, which ends at a space. `None` tells nothing
     /// about the text.
     #[inline(always)]
     pub(crate) fn find_in_text(&self, text: &[u8]) -> Option<(usize, usize)>
@@ -152,7 +152,7 @@ impl NameIndex {
         Some((number, len))
     }
 
-    /// The number of a name, if the table of places has it. `None` says nothing about the name.
+    /// The number of a name, if the table of places contains it. `None` tells nothing about the name.
     fn find_placed(&self, name: &[u8]) -> Option<usize>
         ensures { IfSome result (λ number. position (λ other. is_same other name.now) self.now ≡ Some number) }
     {
@@ -160,7 +160,7 @@ impl NameIndex {
         if name.len() < KEY_BYTES {
             return Some(number);
         }
-        // Another name may have the same key as a long one, so the names are compared.
+        // A long name may share its key with another name, so the names are compared, too.
         if are_same(self.names.get_index(number)?.as_bytes(), name) {
             Some(number)
         } else {
@@ -168,7 +168,7 @@ impl NameIndex {
         }
     }
 
-    /// The number at the first place with this key, if there is one.
+    /// The number in the first place with this key, if there is one.
     #[inline(always)]
     fn find_key(&self, key: &NameKey) -> Option<usize>
         ensures { (name : List ℕ) → length name < KEY_BYTES → IsKeyOf name key.now
@@ -212,7 +212,7 @@ fn guess_of(name: &str) -> usize {
     (word.wrapping_mul(0x9E37_79B9_7F4A_7C15) >> 52) as usize
 }
 
-/// The exponent for the number of first places: 2^digits is four to eight for each name, up to a limit.
+/// The exponent for the number of first places: 2^digits is four to eight places for each name, up to a limit.
 fn place_digits(names: usize) -> u32
     ensures { result ≤ MOST_DIGITS }
 {
@@ -236,7 +236,7 @@ fn empty_place() -> Place
     }
 }
 
-/// The index of the first place at which a key may be.
+/// The index of the first place that may contain a key.
 #[inline(always)]
 fn first_place(key: &NameKey, shift: u32) -> usize {
     let mixed = key
@@ -246,7 +246,7 @@ fn first_place(key: &NameKey, shift: u32) -> usize {
     mixed.wrapping_shr(shift) as usize
 }
 
-/// Stores a place at the first empty one among those of its key; drops it if none is empty.
+/// Stores a place at the first empty one of the places for its key, or drops it if none of these is empty.
 fn put(places: &mut Vec<Place>, from: usize, place: Place)
     ensures { (names : List (List ℕ)) → ArePlaces names places.old.items
         → (place.key.len < KEY_BYTES → IsPlaceOf names place) → ArePlaces names places.new.items }

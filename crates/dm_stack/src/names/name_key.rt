@@ -1,11 +1,11 @@
-//! Names packed into two words and a length, so that they are compared at once.
+//! Names packed into two words and a length, so that a comparison takes no loop.
 //!
-//! The two words of a short name, of at most 15 bytes, hold all of it: sixteen bytes are read together, and those
-//! after the name set to zero. The words of a longer name mix its first sixteen bytes with its last sixteen, and
-//! another name may have the same ones.
+//! The two words of a short name, of at most 15 bytes, contain the whole name: sixteen bytes are read together,
+//! and those after the name are set to zero. The words of a longer name mix its first sixteen bytes with its last
+//! sixteen, and another name may have the same words.
 //!
-//! Keys are here for speed alone: RESULTS.md has the gain as *short names compared at once*. If you change them,
-//! measure small requests before and after.
+//! Keys are here for speed alone: RESULTS.md lists the gain as *short names compared at once*. If you change
+//! them, measure small requests before and after.
 
 ghost use Rattle.dm_stack.specs.Prelude.{IfSome, IsTrue, get_or, length, replicate, take, to_le_bytes, w64, code, IsKeyOf};
 ghost use Rattle.dm_stack.specs.declared.names.name_key.TheConstants.{KEY_BYTES};
@@ -14,7 +14,7 @@ ghost use Rattle.std.specs.Prelude.{◌≡◌, ◌-◌, ◌<◌, ◌≤◌, ◌+
 use dm_table::{as_array, put_bytes};
 use std::simd::prelude::*;
 
-/// How many bytes are read together: one more than a short name can have.
+/// How many bytes are read together, which is one more than a short name can have.
 pub(crate) const KEY_BYTES: usize = 16;
 
 /// A name packed into two words, and its length in bytes.
@@ -74,7 +74,7 @@ impl NameKey {
     }
 }
 
-/// Sixteen bytes that keep another byte in an `and`, and then sixteen that clear it.
+/// A mask for `and`: sixteen bytes that keep a byte as it is, and then sixteen that clear it.
 static KEPT: [u8; 2 * KEY_BYTES] = [
     255, 255, 255, 255, 255, 255, 255, 255, 255, 255, 255, 255, 255, 255, 255, 255, 0, 0, 0, 0, 0,
     0, 0, 0, 0, 0, 0, 0, 0, 0, 0, 0,

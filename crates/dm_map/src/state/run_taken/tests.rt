@@ -1,4 +1,4 @@
-//! Tests of counting and finding runs, and that runs and tries give the same answers as a plain list.
+//! Tests how runs are counted and found, and that runs and tries return the same numbers as a plain list.
 
 use super::*;
 use crate::fixtures::offer;
@@ -6,10 +6,10 @@ use crate::state::plain_taken::PlainTaken;
 use crate::state::trie_taken::TrieTaken;
 use std::test::Fail;
 
-/// An order in which chunks are taken. Fields: a name; how many are taken; how many are in a row, the distance
-/// within a row, the distance between rows, and the modulus; then what is expected: the number of runs, the
-/// comparisons of all the test's look-ups in runs, and the bits tested by all its look-ups in a trie with the
-/// least power of two of slots.
+/// An order in which chunks are taken. Fields: a name; how many are taken; how many form a row, the distance
+/// within a row, the distance between rows, and the modulus; then the expected number of runs, the expected
+/// comparisons of all look-ups in runs, and the expected bits tested by all look-ups in a trie with the smallest
+/// power of two of slots.
 type Takes = (&'static str, u64, (u64, u64, u64, u64), usize, u64, u64);
 
 static TAKES: [Takes; 9] = [
@@ -59,7 +59,7 @@ static TAKES: [Takes; 9] = [
     ),
 ];
 
-/// The chunk that is taken under this number.
+/// The chunk that this order takes under this number.
 fn chunk_of(takes: &Takes, number: u64) -> u64 {
     let (in_row, apart, step, modulus) = takes.2;
     let row = number.checked_div(in_row).unwrap_or(0);
@@ -99,7 +99,7 @@ fn chunks_are_found_by_their_runs(rt: HostRuntime) {
     assert!(&rt; !taken.is_valid(), "lost");
 }
 
-/// A chunk to look up: for even `part` any chunk, for odd `part` one that the order takes or would take later.
+/// A chunk to look up: any chunk if `part` is even, else one that the order takes now or would take later.
 fn looked_for(takes: &Takes, part: u64) -> u64 {
     if part.is_multiple_of(2) {
         part.wrapping_mul(61)

@@ -14,18 +14,17 @@ pub(crate) enum Node {
     Empty,
     /// A taken chunk, by its number in the order of taking.
     Number(u32),
-    /// A test of a bit, and the index of the first of two links: this one is for the bit's value 0, the next for
-    /// 1.
+    /// A test of a bit, and the index of the link for the bit's value 0; the link for 1 comes next.
     Fork(u32, u32),
 }
 
-/// The least code of a link that leads to a fork.
+/// The smallest code of a link that leads to a fork.
 const FIRST_FORK: u32 = 1 << 31;
 
-/// How many different indices a fork can hold.
+/// How many different indexes a fork can hold.
 const INDICES: u32 = 1 << 25;
 
-/// A node as a 32-bit code: 0 for no chunk, a number plus 1, or from 2³¹ a fork's bit and index.
+/// A node as a 32-bit code: 0 for no chunk, a chunk's number plus 1, or, from 2³¹ on, a fork's bit and index.
 #[derive(Drop)]
 pub(crate) struct Link {
     code: u32,

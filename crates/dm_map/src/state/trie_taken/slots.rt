@@ -3,19 +3,19 @@
 ghost use Rattle.dm_map.specs.Prelude.{slot_of};
 ghost use Rattle.std.specs.Prelude.{◌≡◌, ◌+◌, ◌<◌, ◌≤◌};
 
-/// A multiplier without a pattern in its bits: 2³² minus 2³² over the golden ratio, which is odd.
+/// An odd multiplier without a pattern in its bits: 2³² minus 2³² divided by the golden ratio.
 const SPREAD: u64 = 0x61C8_8647;
 
-/// How chunks are spread over the slots of a table, whose number is a power of two.
+/// How chunks are spread over the slots of a table; the number of slots is a power of two.
 ///
 /// A chunk below the number of slots has the slot with its own number. For any other chunk, the high bits are
-/// multiplied, and the product from bit 28 on is mixed into the low bits: so chunks that are a power of two
-/// apart, or in runs that are, share few slots.
+/// multiplied, and the product's bits from bit 28 on are mixed into the low bits. So chunks or runs of chunks
+/// that are a power of two apart share few slots.
 #[derive(Drop)]
 pub(crate) struct Slots {
-    /// The greatest slot, with all bits of a slot set.
+    /// The index of the last slot, in which all bits of a slot's index are set.
     mask: u64,
-    /// All bits above those of a slot, set.
+    /// A mask of all bits above those of a slot's index.
     above: u64,
 }
 

@@ -7,8 +7,8 @@ use std::test::Fail;
 #[test]
 fn chunks_are_found_by_their_bits(rt: HostRuntime) {
     let mut taken = TrieTaken::for_chunks(rt.alloc(), 6, 3).expect(&rt, "a trie");
-    // For three chunks the table has four slots. Chunks 0, 8 and 13 share one, and are told apart by bits 3 and
-    // 0.
+    // For three chunks, the table has four slots. Chunks 0, 8 and 13 share a slot, and bits 3 and 0 distinguish
+    // them.
     for chunk in [0, 8, 13, 3] {
         offer(&mut taken, chunk);
     }

@@ -1,4 +1,4 @@
-//! Tests of a store's usage after one request, against the formula in the kernel's document.
+//! Tests a store's usage after one request against the formula in the kernel's document.
 
 use super::*;
 use crate::fixtures::{stack_of, told_after};
@@ -16,7 +16,7 @@ static ROWS: [(&str, &str, &str, Usage); 6] = [
             valid: true,
         },
     ),
-    // With 33 chunks taken, the place of the next one is after the second metadata area.
+    // With 33 chunks taken, the place of the next chunk is after the second metadata area.
     (
         "s: 0 64 snapshot base cow P 1\n",
         "base 64\ncow 64\n",
@@ -28,7 +28,7 @@ static ROWS: [(&str, &str, &str, Usage); 6] = [
             valid: true,
         },
     ),
-    // With 32 chunks taken, the place of the next one is past the end of the store.
+    // With 32 chunks taken, the place of the next chunk is past the end of the store.
     (
         "s: 0 64 snapshot base cow P 1\n",
         "base 64\ncow 34\n",
@@ -40,7 +40,7 @@ static ROWS: [(&str, &str, &str, Usage); 6] = [
             valid: true,
         },
     ),
-    // Snapshots that are lost: a store without room for the last chunk, and then an origin that cannot be read.
+    // Two snapshots become lost: the store of one fills up, and the origin of the other can't be read.
     (
         "s: 0 32 snapshot base cow P 8\n",
         "base 32\ncow 32\n",
@@ -63,7 +63,7 @@ static ROWS: [(&str, &str, &str, Usage); 6] = [
             valid: false,
         },
     ),
-    // The kernel document's example: 49,542 chunks, here all taken by one request.
+    // The example of the kernel's document has 49,542 chunks, which one request takes in this test.
     (
         "s: 0 396336 snapshot base cow P 8\n",
         "base 396336\ncow 2097152\n",
