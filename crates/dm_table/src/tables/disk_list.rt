@@ -1,7 +1,7 @@
 //! Reads disk lists: a line `NAME SECTORS` for each disk.
 //!
 //! Lines are read in order, each once, and their faults are kept until the end, as for table text. A new
-//! column is a field of `Disk` and, in `specs/tables/DiskList.antt`, needs its text in `disk_line`, its form
+//! column needs a field in `Disk` and, in `specs/tables/DiskList.antt`, its text in `disk_line`, its form
 //! in `is_pair`, its value in `disk_in` and, if it is a name, its test in `has_name` and
 //! `disk_reading`.
 
@@ -31,8 +31,8 @@ use std::alloc::{AllocError, Global};
 ///
 /// Takes time linear in the length of the text.
 pub fn parse_disks(alloc: Global, text: &[u8]) -> Result<Vec<Disk>, LoadFault>
-    // An accepted text describes the disks returned; a refused one gives the first fault of the first check
-    // that finds any.
+    // An accepted text describes the disks that are returned; for a refused text, the first fault of the
+    // first check that finds any is returned.
     ensures { IsParsed Disks (DescribesDisks text.now) (disk_checks text.now) result }
 {
     read_lines(alloc, Part::Disks, text)
