@@ -42,7 +42,7 @@ header_at label = four_at label 20
 abbrev pub is_named : (sector : List ℕ) → Bool
 is_named sector = eight_at sector 0 == 0x454E4F4C4542414C
 
--- lvm2 regards the sector as a label: it contains `LVM2 001` and, if it begins with `LABELONE`, also its own number and the right checksum of the bytes after it
+-- lvm2 regards the sector as a label: it contains `LVM2 001` and, if it begins with `LABELONE`, also its own number and the right checksum of all bytes after the checksum
 abbrev pub is_taken : (place : ℕ) → (sector : List ℕ) → Bool
 is_taken place sector =
     (eight_at sector 24 == 0x31303020324D564C) && (not (is_named sector) || ((eight_at sector 8 == place) && (four_at sector 16 == sum_of (slice_range sector 20 512))))
@@ -51,7 +51,7 @@ is_taken place sector =
 abbrev pub is_sound : (sector : List ℕ) → Bool
 is_sound sector = is_named sector && nat_le 32 (header_at sector) && nat_le (header_at sector) 472
 
--- what the search for the label finds in sector `place`: None if it isn't a label, else the label or a fault
+-- what the search for the label finds in sector `place`: None if the sector isn't a label, else the label or a fault
 abbrev pub label_in : (place : ℕ) → Result (List ℕ) ReadFault → Option (Result (List ℕ) HeadFault)
 label_in place (Ok sector) = if is_taken place sector then Some (if is_sound sector then Ok sector else Err Label) else None
 label_in place (Err fault) = Some (Err Unread)
@@ -77,7 +77,7 @@ area_at label number = record { start = eight_at label (header_at label + 40 + 1
 abbrev pub pairs_of : (label : List ℕ) → List Area
 pairs_of label = map (area_at label) (range_with_len 0 ((472 - header_at label) / 16))
 
--- the metadata areas, at most two: the second list in the header, after the list of data areas; more must follow the list, because a pair with start 0 ends it
+-- the metadata areas, at most two: the second list in the header, after the list of data areas; a pair with start 0 must end each of the two lists
 abbrev pub areas_in : (lists : List (List Area)) → Result (List Area) HeadFault
 areas_in (data_areas ∷ areas ∷ rest ∷ more) = if nat_le (length areas) 2 then Ok areas else Err Header
 areas_in _ = Err Header

@@ -5,7 +5,7 @@ use Rattle.lvm_head.specs.Disks.{Sectors, ◌>>=◌, needed}
 use Rattle.lvm_head.specs.Sums.{sum_of}
 use Rattle.std.specs.Prelude.{◌-◌, ◌/◌, ◌%◌, ◌==◌, ◌∷◌, ◌++◌, if◌then◌else◌}
 
--- the byte at a place on a disk, or a fault if its sector can't be read
+-- the byte at offset `place` of a disk, or a fault if the sector with that byte can't be read
 abbrev pub byte_at : Sectors → (place : ℕ) → Result ℕ HeadFault
 byte_at sectors place = needed (sectors (place / 512)) >>= (λ sector. Ok (slice_index sector (place % 512)))
 

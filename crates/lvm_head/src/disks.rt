@@ -12,9 +12,9 @@ ghost use Rattle.std.specs.Prelude.{◌≡◌, ◌≤◌, ◌%◌, ◌^◌};
 
 pub use dm_table::{MOST_BYTES, ReadFault, SECTOR};
 
-/// Disks that can be read, each known by its number.
+/// Disks that can be read, each identified by a number.
 pub trait Disks {
-    /// The path list's entries for the disks, in the order of the disks' numbers. Reads don't change this list.
+    /// The path list's entries for the disks, by number; none if there is no path list. Reads don't change the entries.
     ghost listed: { Self → List DiskPath };
 
     /// Holds for contents of all disks that agree with every read so far. An implementation must make sure that, before

@@ -16,7 +16,7 @@ use std::marker::Model;
 /// The bytes `LABELONE`, with which a label begins.
 const LABEL: u64 = 0x454E_4F4C_4542_414C;
 
-/// The bytes `LVM2 001`, by which a label says that it is one of LVM2.
+/// The bytes `LVM2 001`, which mark a label as an LVM2 label.
 const KIND: u64 = 0x3130_3020_324D_564C;
 
 /// The magic number with which the superblock of an md array's member begins.

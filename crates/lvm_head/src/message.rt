@@ -35,8 +35,8 @@ impl HeadFault {
         }
     }
 
-    /// The message line: the disk's name, and the word for the fault. `Memory` has the message that every command
-    /// prints when memory runs out. Allocates nothing.
+    /// The message line: the disk's name, and the word for the fault. `Memory` has a message of its own, which
+    /// doesn't name the disk. Allocates nothing.
     #[tactic(auto, using(dm_table::proofs::ByteLemmas::disk_name_len))]
     pub fn message(self, disk: &DiskName) -> HeadMessage
         ensures { result.items ≡ head_message disk.now self }

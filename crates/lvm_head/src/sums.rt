@@ -3,7 +3,7 @@
 ghost use Rattle.lvm_head.specs.Prelude.{sum_byte, sum_of};
 ghost use Rattle.std.specs.Prelude.{◌≡◌};
 
-/// The checksum of zero bytes, from which every checksum starts.
+/// The checksum of an empty slice, from which every checksum starts.
 const FIRST_SUM: u32 = 0xF597_A6CF;
 
 /// For each value of a byte, the checksum after eight single-bit steps from that value.

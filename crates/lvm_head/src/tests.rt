@@ -359,7 +359,7 @@ static BAD: [(usize, Result<&str, HeadFault>); 6] = [
 #[test]
 fn heads_are_read_or_refused(rt: HostRuntime) {
     let alloc = rt.alloc();
-    // The first expected checksum was computed with zlib; the second is lvm2's checksum of zero bytes.
+    // The first expected checksum was computed with zlib; the second is lvm2's checksum of an empty slice.
     assert_eq!(&rt; sum_of(b"123456789"), 0x4991_CF02);
     assert_eq!(&rt; sum_of(b""), 0xF597_A6CF);
     for (number, (row, want)) in ROWS.iter().enumerate() {

@@ -42,7 +42,7 @@ abbrev pub is_refused : Token → Bool
 is_refused (Word w) = is_none (number_of w)
 is_refused _ = false
 
--- the lines of integers that are out of range; `before` is the token in front of the list
+-- the lines of integers that are out of range; `before` is the token in front of the other tokens
 abbrev pub number_lines : Token → List TokenAtLine → List ℕ
 number_lines before [] = []
 number_lines before (t ∷ ts) = hit (leads_scalar before && is_refused t.0) t.1 (number_lines t.0 ts)

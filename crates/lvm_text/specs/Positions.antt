@@ -5,7 +5,7 @@ use Rattle.lvm_text.specs.declared.tree.Entry.{Entry}
 use Rattle.std.specs.Prelude.{◌≡◌, ◌+◌, ◌∷◌, if◌then◌else◌}
 use denote.Ref.{Bor}
 
--- the position of the first entry with this key; the position of the first entry is `first`
+-- the position of the first entry with this key; positions are counted from `first`
 abbrev pub position_of : List ℕ → ℕ → List Entry → Option ℕ
 position_of key first [] = None
 position_of key first (e ∷ es) = if bytes_eq e.key.now key then Some first else position_of key (first + 1) es

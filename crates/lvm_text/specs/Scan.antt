@@ -15,7 +15,7 @@ abbrev pub leading_word_bytes : List ℕ → ℕ
 leading_word_bytes [] = 0
 leading_word_bytes (b ∷ bs) = if is_word_byte b then suc (leading_word_bytes bs) else 0
 
--- how many bytes come before the closing quote of a string; None if there is no such quote, or a newline or a bad escape before it
+-- how many bytes come before the closing quote of a string; None if no quote closes the string, or a newline or a bad escape comes first
 abbrev pub raw_length : List ℕ → Option ℕ
 raw_length [] = None
 raw_length (b ∷ []) = if b == code "\"" then Some 0 else None

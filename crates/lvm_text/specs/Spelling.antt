@@ -77,19 +77,19 @@ pub record IsWord (w after : List ℕ) : Type 0 where
   pub bytes : list_all is_word_byte w ≡ true
   pub longest : begins_word after ≡ false
 
--- the token is valid if the bytes `after` follow it in the text
+-- the token is valid in front of the bytes `after`
 abbrev pub IsToken : Token → List ℕ → Type 0
 IsToken (Word w) after = IsWord w after
 IsToken (Text t) after = is_raw t ≡ true
 IsToken _ after = Unit {0}
 
--- the element is valid if the bytes `after` follow it in the text
+-- the element is valid in front of the bytes `after`
 abbrev pub IsElement : Element → List ℕ → Type 0
 IsElement (White b) after = is_white b ≡ true
 IsElement (Comment c) after = is_line c ≡ true
 IsElement (Lexeme t) after = IsToken t after
 
--- the element is valid if certain bytes follow it in the text
+-- the element is valid in front of at least some bytes
 abbrev pub SomeElement : Element → Type 0
 SomeElement p = (after : List ℕ) × IsElement p after
 
@@ -102,7 +102,7 @@ abbrev pub Cut : List ℕ → List Element → List ℕ → Type 0
 Cut text [] rest = text ≡ rest
 Cut text (p ∷ ps) rest = (after : List ℕ) × Begins text p after × Cut after ps rest
 
--- the bytes may follow the last element of a text: there are none, or they are a comment without a newline
+-- the bytes may follow the last element of a text, because there are none or they are a comment without a newline
 abbrev pub is_end : List ℕ → Bool
 is_end [] = true
 is_end (b ∷ bs) = b == code "#" && is_line bs
@@ -131,7 +131,7 @@ pub record Spells (text : List ℕ) (ts : List TokenAtLine) : Type 0 where
   pub end : is_end rest ≡ true
   pub tokens : ts ≡ tokens_from 1 elements
 
--- on this line of the text, something follows the elements before it that is neither whitespace nor a comment nor a token
+-- the text begins with some elements, and then, on this line, comes something that is neither whitespace nor a comment nor a token
 pub record IsBadToken (text : List ℕ) (line : ℕ) : Type 0 where
   pub elements : List Element
   pub rest : List ℕ

@@ -51,7 +51,7 @@ content_view (variants.List v) = Items (scalar_views v.items)
 abbrev pub node_view : Node → Shown
 node_view n = record { line = n.line; content = content_view n.value }
 
--- `later` with a key and the section that the key holds in front, or `later` alone if the key doesn't hold a section
+-- the list `later` with a key and the section that the key holds in front, or `later` alone if the key doesn't hold a section
 abbrev pub put_section : List ℕ → Value → List (List ℕ × Tree) → List (List ℕ × Tree)
 put_section key (variants.Section s) later = (key, s) ∷ later
 put_section key _ later = later

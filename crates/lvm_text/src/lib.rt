@@ -31,7 +31,7 @@ pub use tree::{Node, Scalar, Section, Value};
 /// Reads a text as a tree, or returns its fault.
 ///
 /// The checks `Token`, `Syntax`, `Deep`, `Number` and `KeyTwice` run in this order, each over the whole text, and
-/// the fault is that of the first check that finds any, at the first such line. `Memory` is returned only if an
+/// the first that finds any fault reports its first line. `Memory` is returned only if an
 /// allocation was refused. Keys and strings are slices of the text; a string keeps its backslashes.
 ///
 /// Cost: each byte is read a bounded number of times; a key costs at most 8 comparisons with the first keys of

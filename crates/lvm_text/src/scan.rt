@@ -50,7 +50,7 @@ fn is_escape(bytes: &[u8]) -> bool
     }
 }
 
-/// How many bytes come before the closing quote of a string; `None` if there is no such quote, or a bad byte before it.
+/// How many bytes come before the closing quote of a string; `None` if no quote closes it, or a bad byte comes first.
 pub(crate) fn raw_length(bytes: &[u8]) -> Option<usize>
     ensures { result ≡ raw_length bytes.now }
 {

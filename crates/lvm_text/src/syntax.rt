@@ -64,7 +64,7 @@ fn stage_after(depth: u64, stage: Stage, token: Token<'_>) -> Option<(u64, Stage
     }
 }
 
-/// Whether a text may end here: no section is open and no value is unfinished.
+/// Whether a text may end in this state: no section is open and no value is unfinished.
 fn is_over(depth: u64, stage: Stage) -> bool
     ensures { result ≡ is_over depth stage }
 {

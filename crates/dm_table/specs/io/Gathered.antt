@@ -3,7 +3,7 @@ use Rattle.dm_table.specs.Base.{ℕ, List, Bool, true, nat_lt}
 use Rattle.dm_table.specs.io.DeviceIo.{OutputPast}
 use Rattle.std.specs.Prelude.{◌≡◌, ◌≤◌, ◌++◌, ◌||◌}
 
--- the history of the output behind, the bytes in the buffer, whether the output behind has failed, and the gathering output's own fault and flush counts
+-- a gathering output: the history of the output behind it, the bytes in its buffer, whether the output behind it has failed, and its own fault and flush counts
 pub record Gathering : Type 0 where
   pub behind : OutputPast
   pub held : List ℕ
@@ -20,7 +20,7 @@ past_of g = record {
   flushes = g.flushes;
 }
 
--- `broken` is set for good by a fault of the output behind, which a broken gathering output no longer calls
+-- a fault of the output behind a gathering output sets `broken` for good, and once `broken` is set, the output behind isn't called any more
 pub record MindsFaults (old new : Gathering) : Type 0 where
   pub grows : old.behind.faults ≤ new.behind.faults
   pub broken : new.broken ≡ (old.broken || nat_lt old.behind.faults new.behind.faults)

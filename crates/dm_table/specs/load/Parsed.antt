@@ -4,7 +4,7 @@ use Rattle.std.specs.Global.{Vec}
 use Rattle.dm_table.specs.load.LoadFault.{Answers, IsMemoryFault, first_fault}
 use Rattle.std.specs.Prelude.{◌≡◌, ◌≢◌}
 
--- a parser's answer for a part is right; `describes` says which values the text describes, and `checks` are its checks in order
+-- the contract of a parser's answer for a part: `describes` says which values the text describes, and `checks` are the checks of the text in order
 pub record IsParsed {X : Type 0} (part : Part) (describes : List X → Type 0) (checks : List (List LoadFault)) (answer : Result (Vec X) LoadFault) : Type 0 where
   -- an accepted text describes the values that are returned, and every text that describes values is accepted unless memory runs out
   pub accepted : IfOk answer (λ v. describes v.items)

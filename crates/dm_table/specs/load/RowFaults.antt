@@ -31,11 +31,11 @@ fault_in (Err fault) = Some fault
 
 -- ---- the first fault of each kind
 
--- no fault
+-- the state in which no row has had a fault
 abbrev pub no_faults : FirstFaults
 no_faults = record { syntax = None; field = None; name = None }
 
--- the first of two optional faults, or the second if there is no first
+-- the first of two optional faults, or the second if the first is None
 abbrev pub either : Option LoadFault → Option LoadFault → Option LoadFault
 either None later = later
 either (Some fault) later = Some fault

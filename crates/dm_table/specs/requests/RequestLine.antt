@@ -88,7 +88,7 @@ abbrev pub values_in : List (List ℕ) → Option RequestValues
 values_in (op ∷ device ∷ start ∷ len ∷ []) = if_both (λ start len. record { op = if pointwise nat_eq op (codes "R") then Read else Write; device = device; start = start; len = len }) (number_of start) (number_of len)
 values_in _ = None
 
--- the values of a request, or its fault: Number if there are no values, or Length if the length is out of range
+-- the values of a request, or the request's fault: Number if there are no values, or Length if the length is out of range
 abbrev pub values_reading : Option RequestValues → Result RequestValues RequestFault
 values_reading None = Err Number
 values_reading (Some values) = if is_length values.len then Ok values else Err Length

@@ -14,7 +14,7 @@ use Rattle.std.specs.Prelude.{◌≡◌, ◌+◌, ◌-◌, ◌/◌, ◌%◌, ◌
 
 -- ---- a text cut in two
 
--- the bytes before the first byte c of a text, and the bytes after it; if there is no c, all bytes and none
+-- the bytes before the first byte c of a text, and the bytes after that c; without a c, the whole text and no bytes
 abbrev pub cut_at : (c : ℕ) → List ℕ → List (List ℕ)
 cut_at c text = let front = get_or (parts_at c text) 0 [] in front ∷ drop (length front + 1) text ∷ []
 

@@ -39,7 +39,7 @@ SaysLine n text named = Writes text named × IsSaid n named
 abbrev pub named_lines : List DeviceSpec → List NamedLine
 named_lines = flat_map (λ device. map (λ line. record { name = device.name; line = line }) device.lines)
 
--- there is a first line, and its place is this one; this is how a device in table text gets its place
+-- the list has a first line, and `at` is that line's place, which in table text is the place of the device
 abbrev pub HasPlaceOf : List Line → Place → Type 0
 HasPlaceOf [] at = ⊥
 HasPlaceOf (line ∷ lines) at = at ≡ line.at

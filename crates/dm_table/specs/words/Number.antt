@@ -16,7 +16,7 @@ is_number text = nat_le 1 (length text) && (nat_le (length text) 19 && ((not (sl
 unfoldable pub number_of : List ℕ → Option ℕ
 number_of text = if is_number text then Some (digits_value 10 text) else None
 
--- the number that a field spells, or 0 if it spells none
+-- the number that a field spells, or 0 if the field spells none
 abbrev pub number_in : List ℕ → ℕ
 number_in field = unwrap_or (number_of field) 0
 

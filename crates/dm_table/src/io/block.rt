@@ -6,7 +6,7 @@
 //!
 //! Copies of a fixed size, and the free space after a text that they need, are used for speed alone: RESULTS.md
 //! has their gain as *texts kept ready*. Each `requires` asks for that space; `TEXT_ROOM` bytes are always enough.
-//! Change them only if you measure small requests, and large ones over 16 columns, before and after.
+//! Change these copies only if you measure small requests, and large requests over 16 columns, before and after.
 
 ghost use Rattle.dm_table.specs.Prelude.{length, take, drop, decimal, IsPut};
 ghost use Rattle.std.specs.Prelude.{◌≡◌, ◌++◌, ◌+◌, ◌≤◌};

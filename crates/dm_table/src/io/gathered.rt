@@ -17,7 +17,7 @@ use std::marker::Model;
 /// The block is full at this many bytes: all collected bytes are passed on before the next text.
 const FULL: usize = 65536;
 
-/// The size of the block in bytes, with room for one more text when it is almost full.
+/// The size of the block in bytes: one more text fits in as long as the block isn't full.
 const BLOCK_BYTES: usize = FULL + TEXT_ROOM;
 
 /// An output that collects bytes in front of another output.

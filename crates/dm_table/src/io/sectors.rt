@@ -3,7 +3,7 @@
 /// The size of a sector in bytes.
 pub const SECTOR: usize = 512;
 
-/// The most bytes of one read.
+/// The most bytes that one read may request.
 pub const MOST_BYTES: usize = 65_536;
 
 /// The fault of an image or a disk that can't be opened or read, or that ends before the sectors to be read.

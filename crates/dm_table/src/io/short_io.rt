@@ -212,7 +212,7 @@ impl Output for ShortOut {
         Ok(n)
     }
 
-    /// Fails if the output was made with `flush_fails`.
+    /// Flushes, and fails exactly if the output was made by `failing_flush`.
     fn flush(&mut self) -> Result<(), OutFault>
         ensures past { self.new.past ≡ after_flush self.old.past result }
         ensures exact { PassesOn self.old self.new result }

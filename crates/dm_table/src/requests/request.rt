@@ -1,4 +1,4 @@
-//! The type of a request, as a request line gives it, and the faults of a line.
+//! The type of a request, as a request line describes it, and the faults of request lines.
 //!
 //! A request borrows its device name from its line, so that reading a request allocates nothing. A new field
 //! of a request also has to be read from the line, in `request_line`.
@@ -18,7 +18,7 @@ pub enum Op {
     Write,
 }
 
-/// A request to read or write `len` sectors of a device from sector `start` on; `number` is its line's, from 1.
+/// A request to read or write `len` sectors of a device from sector `start` on, described on line `number`, from 1.
 #[derive(Clone, Copy, Debug)]
 pub struct Request<'a> {
     pub number: u64,
@@ -33,7 +33,7 @@ pub struct Request<'a> {
 /// Why a line isn't a valid request.
 #[derive(Clone, Copy, Debug, PartialEq, Eq, Error)]
 pub enum RequestFault {
-    /// The line isn't `R` or `W`, a valid device name and two more fields, with single spaces between them.
+    /// The line doesn't consist of `R` or `W`, a valid device name and two more fields, separated by single spaces.
     #[error("form")]
     Form,
     /// The start or the length isn't a valid number.

@@ -142,7 +142,7 @@ fn number_fault(text: &[u8]) -> RequestFault
 
 /// Reads line `number` of a request stream, without its newline, as a request.
 ///
-/// A line is a request exactly if it is `R` or `W`, a device name, a start below 10^19, and a length of 1 to
+/// A line is a request exactly if it consists of `R` or `W`, a device name, a start below 10^19, and a length of 1 to
 /// [`MOST_SECTORS`] sectors of 512 bytes, with single spaces between them; numbers are decimal without leading
 /// zeros. No line describes two different requests.
 ///
@@ -159,9 +159,9 @@ pub fn parse_request<'a>(line: &'a [u8], number: u64) -> Result<Request<'a>, Req
         → IsOkAnd result (λ request. values_of request ≡ values) }
     ensures unique { (a b : RequestValues) → DescribesRequest line.now a → DescribesRequest line.now b
         → a ≡ b }
-    // The fault of a refused line is the first that applies.
+    // The fault of a refused line is the first of `Form`, `Number` and `Length` that applies.
     ensures fault { IfErr result (λ fault. request_reading line.now ≡ Err fault) }
-    // The value of `MOST_SECTORS`, for readers of the contract.
+    // The value of `MOST_SECTORS`, for readers of this contract.
     ensures limit { MOST_SECTORS ≡ 1048576 }
 {
     let Some((op, device, rest)) = head(line) else {
@@ -218,8 +218,8 @@ fn last_number(text: &[u8]) -> Option<(u64, usize)>
 /// Reads the request line at the front of `text`, which may contain more lines; the line's operation and device have
 /// been read already. Returns the request, as line `number` of the stream, and the line's length in bytes.
 ///
-/// `None` means that the line is incomplete, or bad, or too close to the end of the text to be read in this way.
-/// [`parse_request`] then reads the line or finds its fault.
+/// `None` doesn't mean that the line is bad: it may be incomplete, too close to the end of the text, or have a number
+/// of `FRONT` digits or more. [`parse_request`] then reads the line or finds its fault.
 ///
 /// Cost: no allocation, and one pass over the numbers.
 #[inline(always)]

@@ -27,7 +27,7 @@ use std::alloc::{AllocError, Global};
 /// bytes that aren't UTF-8, or a NUL; `Syntax` for a line that isn't a name, a space and a path, or isn't ended by
 /// a newline; `Field` for `offset=` or `length=` after the last `?` in any other form, for a number that isn't a
 /// multiple of 512, and for a length of 0; `Name` for an invalid disk name. `Memory`, with number 0, may come at
-/// any point if an allocation is refused. A disk may be named twice, or be unknown: later checks see to that.
+/// any point if an allocation is refused. A list that names a disk twice, or a disk of no stack, is accepted.
 ///
 /// Takes time linear in the length of the text.
 pub fn parse_paths(alloc: Global, text: &[u8]) -> Result<Vec<DiskPath>, LoadFault>
@@ -83,7 +83,7 @@ impl FromRows for DiskPath {
     }
 }
 
-/// The bytes of a text before its first byte `at`, and the bytes after it; if there is no `at`, all bytes and none.
+/// The bytes of a text before its first byte `at`, and the bytes after; without an `at`, the whole text and no bytes.
 fn cut_at(at: u8, text: &[u8]) -> (&[u8], &[u8])
     ensures { cut_at at text.now ≡ texts (result.0 ∷ result.1 ∷ []) }
 {

@@ -83,7 +83,7 @@ pub enum Use {
     Serving,
 }
 
-/// A line of a table: `len` sectors from `start` on, and its place in the text.
+/// A line of a table: the target that `len` sectors from `start` on map to, and the line's place in the text.
 #[derive(Debug, Drop)]
 pub struct Line {
     pub start: u64,
@@ -95,7 +95,7 @@ pub struct Line {
 /// The lines of a device, in the order of the text.
 pub type Table = Listed<Line>;
 
-/// A device: its name, whether it is read-only, its table, and its place in the text.
+/// A device: its name, its table, whether it is read-only, and its place in the text.
 #[derive(Debug, Drop)]
 pub struct DeviceSpec {
     pub name: Name,

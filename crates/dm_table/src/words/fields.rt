@@ -3,7 +3,7 @@
 //! A text is cut once, and all checks use the parts, which borrow from the text. A form of text with another
 //! separator calls `cut` too.
 //!
-//! For speed alone, short texts are cut by `marks`; `cut_searched` would do for all.
+//! For speed alone, `marks` finds the separators of short texts; `cut_searched` could cut texts of any length.
 
 ghost use Rattle.dm_table.specs.Prelude.{IfOk, OnOk, length, ends_empty, parts_at, row_fields, texts, marks_of};
 ghost use Rattle.std.specs.Prelude.{◌≡◌, ◌++◌, ◌≤◌};
@@ -30,7 +30,7 @@ pub(crate) fn cut_into<'a>(
     ensures { OnOk result (texts parts.new.items ≡ parts_at at text.now) }
 {
     parts.clear();
-    // For a short text, searching for each separator would cost more than everything else.
+    // In a short text, a search for each separator would cost more than handling the parts.
     match marks(at, text) {
         Some(marks) => cut_marked(parts, at, text, marks),
         None => cut_searched(parts, at, text),

@@ -17,8 +17,8 @@ use std::simd::prelude::*;
 /// How many bytes are read at once.
 pub(crate) const FRONT: usize = 16;
 
-/// The number that the digits at the front of a text spell, and how many digits it has. `None` if there is no
-/// number, or if it has sixteen digits or more.
+/// The number that the digits at the front of a text spell, and how many digits the number has. `None` if there
+/// is no number, or if it has sixteen digits or more.
 #[inline(always)]
 pub(crate) fn read_front(text: &[u8]) -> Option<(u64, usize)>
     requires { FRONT ≤ length text.now }

@@ -37,7 +37,7 @@ pub trait NameRule {
     ghost ascii: { (text : List ℕ) → IsTrue (is_name text) → IsAscii text };
 }
 
-/// A valid name by the rule `R`, in memory of its own.
+/// A text that is a valid name by the rule `R`, in an allocation of its own.
 #[derive(Debug, Drop)]
 pub struct CheckedName<R: NameRule> {
     text: ReservedText,

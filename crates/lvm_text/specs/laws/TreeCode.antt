@@ -10,7 +10,7 @@ use Rattle.lvm_text.specs.Tree.{Scalar, Int, Text, Values, Nothing, Section, Sin
 abbrev pub Flat : Type 0
 Flat = ℕ ⊎ List ℕ
 
--- what a key holds, in a tree's code: a section that begins here, a scalar, or a list of scalars
+-- what a key holds, in a tree's code: a section, whose values come next in the code, a scalar, or a list of scalars
 abbrev pub Held : Type 0
 Held = Unit {0} ⊎ (Flat ⊎ List Flat)
 
@@ -23,7 +23,7 @@ abbrev pub flat_scalar : Scalar → Flat
 flat_scalar (Int n) = inl n
 flat_scalar (Text t) = inr t
 
--- the scalar that an item of a tree's code was made from
+-- the scalar that a `Flat` in a tree's code was made from
 abbrev pub scalar_back : Flat → Scalar
 scalar_back (inl n) = Int n
 scalar_back (inr t) = Text t
