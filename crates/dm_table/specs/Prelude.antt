@@ -1,4 +1,4 @@
--- The names that contracts use, in this crate and in crates above, in one place.
+-- The names that contracts in this crate and in the crates above use, collected in one place.
 pub use Rattle.dm_table.specs.Base.{Bool, Disks, Err, IfErr, IfNone, IfOk, IfSome, IsErr, IsOkAnd, IsTrue, Keeps, List, LoadFault, LoadKind, Memory, None, NotText, Ok, OnErr, OnFalse, OnOk, OnTrue, Option, Part, Paths, Place, ReadConsumes, Result, RowFault, Some, Source, WriteAppends, [], ap, append-nil, append_assoc, codes, cond, decimal, digits_value, drop, drop_at, false, flat_map, get_or, insert, is_ascii_digit, is_err, is_some, join_with_byte, length, length-append, list_all, map, map-append, min, nat_lt, number_from_digits, option_map, option_to_list, prefix_len, refl, sem, slice_index_or, slice_range, string_bytes, subst, suc, sym, take, take_at, true, vec_capacity, vec_len, ℕ, ◌∙◌}
 pub use Rattle.dm_table.specs.contracts.io.ghost_list.GhostList.{the_row}
 pub use Rattle.dm_table.specs.declared.io.device_io.OutFault.{OutFault}

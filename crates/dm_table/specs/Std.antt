@@ -1,4 +1,4 @@
--- The names from std that definitions and contracts use, in this crate and in crates above, in one place.
+-- The names from std that definitions and contracts in this crate and in the crates above use, collected in one place.
 pub use Rattle.std.specs.BTreeMap.{BTreeMap, IsOrdered, Updates, get, get_by, is_at}
 pub use Rattle.std.specs.Bool.{OnFalse, OnTrue}
 pub use Rattle.std.specs.Borrow.{Bor, Fml, Lends, MutBor, RattleType, ftrue, sem}

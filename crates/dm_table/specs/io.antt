@@ -1,4 +1,4 @@
--- What inputs and outputs have done so far, and how reads, writes and flushes change that.
+-- The histories of inputs and outputs, and how reads, writes and flushes change a history.
 pub mod Block
 pub mod DeviceIo
 pub mod Gathered

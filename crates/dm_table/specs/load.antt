@@ -1,4 +1,4 @@
--- The parts of a load: the result of reading one, its checks, its faults and their messages.
+-- The parts of a load: the result of reading a part, the checks of a part, and the faults of a load with their messages.
 pub mod LoadFault
 pub mod LoadMessage
 pub mod Parsed

@@ -1,2 +1,2 @@
--- Request lines.
+-- What request lines describe.
 pub mod RequestLine

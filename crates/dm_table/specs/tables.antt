@@ -1,4 +1,4 @@
--- Tables and disk lists: which texts describe them, and which text is written for them.
+-- Tables, disk lists and path lists: which texts describe them, and which texts are written for tables.
 pub mod CanonicalText
 pub mod ConciseReading
 pub mod ConciseText

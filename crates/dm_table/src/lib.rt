@@ -1,7 +1,7 @@
 //! Device-mapper tables, disk lists and requests: how their texts are read and written, and the inputs
 //! and outputs for the bytes.
 //!
-//! A text is accepted exactly if it spells a description in its grammar, and a call returns that
+//! A parser accepts a text exactly if the text spells a description in its grammar, and then returns that
 //! description; else it returns the first fault, in order of lines, of the first check that finds any.
 //! The terms are those of dmsetup(8) and of the kernel's admin-guide/device-mapper documents.
 #![tactic(auto)]

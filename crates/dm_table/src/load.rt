@@ -1,4 +1,4 @@
-//! The parts of a load: how each is read and checked, and the faults and messages of refused loads.
+//! The parts of a load: how each part is read and checked, and the faults and messages of refused loads.
 
 pub mod load_fault;
 pub mod load_message;

@@ -1,10 +1,10 @@
-//! Memory that is allocated while loading, and afterwards only read and filled.
+//! Types for memory that is allocated while loading, and afterwards only read and filled.
 //!
-//! A `Vec` keeps its allocator, so whoever holds one can allocate: by cloning it, growing it, or asking it for the
-//! allocator. The types here hide theirs. A caller with an allocator makes their content, they can't be cloned, and
-//! every call that allocates takes an allocator as an argument. So a function that has no allocator, and holds
-//! nothing but these types, allocates nothing. That holds as long as this module hands out no allocator, which no
-//! contract says.
+//! A `Vec` keeps its allocator, so whoever holds a `Vec` can allocate: by cloning it, growing it, or asking it for the
+//! allocator. The types in this module hide their allocators: a caller with an allocator makes their content, they
+//! can't be cloned, and every call that allocates takes an allocator as an argument. So a function that has no
+//! allocator, and holds no vectors but these types, allocates nothing. No contract says so: this module must never
+//! hand out an allocator.
 
 ghost use Rattle.dm_table.specs.Prelude.{[], IfOk, OnOk, length, slice_index_or, vec_capacity, sem, insert, string_bytes};
 ghost use Rattle.std.specs.Prelude.{◌≡◌, ◌<◌, ◌≤◌, ◌++◌, ◌∷◌};
@@ -13,7 +13,7 @@ use std::alloc::{AllocError, Global};
 use std::marker::Model;
 use std::ops::{Index, IndexMut};
 
-/// A vector with spare capacity that hides its allocator. A contract sees its values as a list, and its
+/// A vector with spare capacity that hides its allocator. A contract sees the values as a list, and the
 /// capacity.
 #[derive(Debug, Drop)]
 pub struct Reserved<T> {
@@ -30,7 +30,7 @@ impl<T> Model for Reserved<T> {
 }
 
 impl<T> Reserved<T> {
-    /// Wraps a vector, with its capacity. Allocates nothing.
+    /// Wraps a vector, keeping its capacity. Allocates nothing.
     pub fn from_vec(items: Vec<T>) -> Reserved<T>
         ensures items { result.items ≡ items.items }
         ensures room { result.room ≡ vec_capacity items }
@@ -38,7 +38,7 @@ impl<T> Reserved<T> {
         Reserved { items }
     }
 
-    /// Returns the values as a vector that can grow, so only the owner may do this. Allocates nothing.
+    /// Returns the values as a vector, which can grow, so that only the owner may call this. Allocates nothing.
     pub(crate) fn into_vec(self) -> Vec<T>
         ensures { result.items ≡ self.items }
     {
@@ -61,7 +61,7 @@ impl<T> Reserved<T> {
         self.items.as_slice()
     }
 
-    /// Appends a value, for which the capacity must suffice. Allocates nothing.
+    /// Appends a value; the capacity must suffice. Allocates nothing.
     #[inline(always)]
     pub fn push(&mut self, value: T)
         requires { length self.old.items < self.old.room }
@@ -85,7 +85,7 @@ impl<T: Drop> Reserved<T> {
         };
     }
 
-    /// Appends a value, and allocates if the capacity doesn't suffice. Only a caller with an allocator can do this.
+    /// Appends a value, and allocates if the capacity doesn't suffice, which is why the call needs an allocator.
     #[inline(always)]
     pub(crate) fn grow(&mut self, _alloc: Global, value: T) -> Result<(), AllocError>
         ensures { OnOk result (self.new.items ≡ self.old.items ++ value ∷ []) }

@@ -1,4 +1,4 @@
--- The law about heads: reading a head gives exactly what the head spells.
+-- The law about heads: reading a head returns exactly the id and the text that the head spells.
 use Rattle.lvm_head.specs.Base.{[], ℕ, true, false, List, None, Result, Ok, length, slice_index, All, Any, Area, Location, HeadFault}
 use Rattle.lvm_head.specs.Areas.{is_header, is_near, is_none, is_within, location_in, ring_place}
 use Rattle.lvm_head.specs.Disks.{Sectors}
@@ -10,7 +10,7 @@ use Rattle.std.specs.Prelude.{◌≡◌, ◌↔◌, ◌⊎◌, ◌<◌, ◌≤�
 
 -- ---- the label that a head spells
 
--- the first sector has no partition table, and neither it nor sector 8 is the superblock of an array
+-- sector 0 contains no partition table, and neither sector 0 nor sector 8 contains the superblock of an md array's member
 pub record IsUndivided (sectors : Sectors) : Type 0 where
   pub first : List ℕ
   pub later : List ℕ
@@ -20,7 +20,7 @@ pub record IsUndivided (sectors : Sectors) : Type 0 where
   pub alone : is_member first ≡ false
   pub alone_later : is_member later ≡ false
 
--- the label is a valid one in sectors 0 to 3, and no sector before it is regarded as a label
+-- the label is valid and in one of sectors 0 to 3, and lvm2 regards no sector before it as a label
 pub record IsTheLabel (sectors : Sectors) (label : List ℕ) : Type 0 where
   pub place : ℕ
   pub inside : place < 4
@@ -31,17 +31,17 @@ pub record IsTheLabel (sectors : Sectors) (label : List ℕ) : Type 0 where
 
 -- ---- the text that a location spells
 
--- the first `count` values of `byte` are these bytes, and none of them is a fault
+-- the first `count` values of the function `byte` are these bytes, and none of the values is a fault
 pub record HasBytes (byte : ℕ → Result ℕ HeadFault) (count : ℕ) (bytes : List ℕ) : Type 0 where
   pub len : length bytes ≡ count
   pub are : (i : ℕ) → i < count → byte i ≡ Ok (slice_index bytes i)
 
--- the text is these bytes if they end with a newline, or these bytes without a NUL at their end
+-- the text consists of these bytes, which end with a newline, or of these bytes without the NUL at their end
 pub data IsEnded (text bytes : List ℕ) : Type 0 where
   AtNul : bytes ≡ text ++ 0 ∷ [] → IsEnded text bytes
   AtNewline : bytes ≡ text → (before : List ℕ) → text ≡ before ++ 10 ∷ [] → IsEnded text bytes
 
--- the location spells a text: its bytes in the ring have its checksum, and are the text, perhaps with a NUL after it
+-- the location spells a text: the bytes in the ring buffer have the location's checksum, and are the text, possibly with a NUL at the end
 pub record SpellsText (sectors : Sectors) (start : ℕ) (location : Location) (text : List ℕ) : Type 0 where
   pub some : is_none location ≡ false
   pub within : is_within location ≡ true
@@ -51,7 +51,7 @@ pub record SpellsText (sectors : Sectors) (start : ℕ) (location : Location) (t
   pub sum : sum_of bytes ≡ location.sum
   pub ends : IsEnded text bytes
 
--- the area has a valid header and spells the text, or no text, which is []
+-- the area has a valid header, whose location spells the text, or names no text if the text is []
 pub record SpellsArea (sectors : Sectors) (text : List ℕ) (area : Area) : Type 0 where
   pub header : List ℕ
   pub near : is_near area ≡ true
@@ -61,7 +61,7 @@ pub record SpellsArea (sectors : Sectors) (text : List ℕ) (area : Area) : Type
 
 -- ---- what a whole head spells
 
--- a head spells an id and a text: its label has the id, each area spells the text or none, and at least one area spells the text if it isn't []
+-- a head spells an id and a text: the label contains the id, each area spells the text or none, and at least one area spells the text unless it is []
 pub record SpellsHead (sectors : Sectors) (said : Said) : Type 0 where
   pub undivided : IsUndivided sectors
   pub label : List ℕ
@@ -72,6 +72,6 @@ pub record SpellsHead (sectors : Sectors) (said : Said) : Type 0 where
   pub each : All (λ area. SpellsArea sectors [] area ⊎ SpellsArea sectors said.text area) areas
   pub some : (said.text ≡ []) ⊎ Any (SpellsArea sectors said.text) areas
 
--- for all sectors, `head_of` gives what the head spells, and nothing else
+-- for all sectors, `head_of` returns an id and a text exactly if the head spells them
 abbrev pub ReadsBack : Type 0
 ReadsBack = (sectors : Sectors) (said : Said) → (head_of sectors ≡ Ok said) ↔ SpellsHead sectors said

@@ -18,7 +18,7 @@ fault_word Missing = codes "missing"
 fault_word Ends = codes "ends"
 fault_word Memory = codes "memory"
 
--- the message line, which names the disk and the fault; out of memory has the same message as elsewhere
+-- the message for a fault of the disk with this name, with a newline at the end; Memory has a message of its own, which doesn't name the disk
 abbrev pub head_message : (disk : List ℕ) → HeadFault → List ℕ
 head_message disk Memory = memory_message
 head_message disk fault = codes "dmremap: disk " ++ disk ++ codes ": " ++ fault_word fault ++ codes "\n"

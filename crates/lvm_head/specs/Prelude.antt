@@ -1,4 +1,4 @@
--- The names that contracts use, in this crate and in crates above, in one place.
+-- The names that contracts in this crate and in the crates above use, collected in one place.
 pub use Rattle.lvm_head.specs.Areas.{is_header, is_near, is_none, is_within, location_in, ring_place}
 pub use Rattle.lvm_head.specs.Base.{AreRead, Area, Array, Differ, Err, HeadFault, Header, IfErr, IfOk, Label, Long, Memory, Ok, OnOk, Partitions, ReadFault, Text, Unread, [], bytes_eq, eight_at, false, length, list_any, map, nat_le, nat_lt, not, sector_in, slice_index, slice_range, slice_split, true, ℕ}
 pub use Rattle.lvm_head.specs.Disks.{Contents, Sectors, answer, needed, ◌>>=◌}

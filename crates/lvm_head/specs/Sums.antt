@@ -1,8 +1,8 @@
--- The checksums of labels, headers and texts (calc_crc in lvm2): CRC-32 with zlib's polynomial, lowest bit first, another initial value and no final inversion.
+-- The checksums of labels, headers and texts (calc_crc in lvm2): CRC-32 as in zlib, lowest bit first, but with another initial value and without the final inversion.
 use Rattle.lvm_head.specs.Base.{ℕ, List, bit_xor, fold}
 use Rattle.std.specs.Prelude.{◌/◌, ◌%◌, ◌*◌}
 
--- the checksum after one bit
+-- the checksum after one step of a single bit
 unfoldable pub sum_bit : (sum : ℕ) → ℕ
 sum_bit sum = bit_xor (sum / 2) (sum % 2 * 0xEDB88320)
 

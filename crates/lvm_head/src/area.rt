@@ -1,4 +1,4 @@
-//! Metadata areas: their headers, and where in them the texts are.
+//! Metadata areas: their headers, and where the metadata texts are in the areas.
 
 ghost use Rattle.lvm_head.specs.Prelude.{ℕ, true, false, length, is_header, is_near, is_none, is_within, location_in, ring_place, eight_at};
 ghost use Rattle.dm_table.specs.declared.io.sectors.TheConstants.{MOST_BYTES, SECTOR};
@@ -8,12 +8,12 @@ use crate::disks::{MOST_BYTES, SECTOR};
 use crate::sums::sum_of;
 use dm_table::{eight_at, four_at};
 
-/// The magic bytes ` LVM2 x[` and `5A%r0N*>` of a header.
+/// The magic bytes ` LVM2 x[` of an area's header; `5A%r0N*>` follow.
 const MAGIC: u64 = 0x5B78_2032_4D56_4C20;
 
 const MORE_MAGIC: u64 = 0x3E2A_4E30_7225_4135;
 
-/// The only version of headers that is read.
+/// The version of area headers; headers of other versions are refused.
 const VERSION: u32 = 1;
 
 /// The largest start of an area, and its largest size, in bytes.
@@ -26,8 +26,8 @@ pub(crate) struct Area {
     pub size: u64,
 }
 
-/// Where the text of an area is, as the area's header says: `size` bytes from offset `offset` of the area on, in a ring
-/// buffer that ends at offset `ring`.
+/// Where the text of an area is, by the area's header: `size` bytes from offset `offset` on, in a ring buffer that ends
+/// at offset `ring`; both offsets count from the start of the area.
 #[derive(Clone, Copy, Debug, PartialEq, Eq, Drop)]
 pub(crate) struct Location {
     pub ring: u64,
@@ -60,7 +60,7 @@ pub(crate) fn is_header(sector: &[u8], area: Area) -> bool
         && eight_at(sector, 32) <= area.size
 }
 
-/// The location of the text in force, from the area's header.
+/// The location of the current metadata text, from the area's header.
 pub(crate) fn location_in(sector: &[u8]) -> Location
     requires { length sector.now ≡ SECTOR }
     ensures { result ≡ location_in sector.now }
@@ -74,14 +74,14 @@ pub(crate) fn location_in(sector: &[u8]) -> Location
     }
 }
 
-/// Whether the location gives no text: the area is to be ignored, or has no text yet.
+/// Whether the location names no text, because the area is to be ignored or contains no text yet.
 pub(crate) fn is_none(location: Location) -> bool
     ensures { result ≡ is_none location }
 {
     location.flags % 2 == 1 || location.offset == 0
 }
 
-/// Whether the text begins in the ring, after the header, and fits into it without overlapping itself.
+/// Whether the text begins inside the ring buffer, after the header, and is no longer than the ring buffer.
 pub(crate) fn is_within(location: Location) -> bool
     requires { location.ring ≤ 2 ^ 58 }
     ensures { result ≡ is_within location }
@@ -92,7 +92,7 @@ pub(crate) fn is_within(location: Location) -> bool
         && location.size + 512 <= location.ring
 }
 
-/// The place on the disk of byte `number` of a text, in bytes.
+/// Where byte `number` of a text is on the disk, in bytes.
 pub(crate) fn ring_place(start: u64, location: Location, number: u64) -> u64
     requires start { start ≤ 2 ^ 58 }
     requires ring { location.ring ≤ 2 ^ 58 }
@@ -108,7 +108,7 @@ pub(crate) fn ring_place(start: u64, location: Location, number: u64) -> u64
     }
 }
 
-/// How many bytes of a text, from byte `number` on, are consecutive on the disk and can be read in one read.
+/// How many bytes of a text, from byte `number` on, are consecutive on the disk and fit in one read.
 pub(crate) fn row_len(start: u64, location: Location, number: u64) -> u64
     requires start { start ≤ 2 ^ 58 }
     requires ring { location.ring ≤ 2 ^ 58 }

@@ -1,8 +1,8 @@
 //! The trait `Disks`, for disks that are read in sectors of 512 bytes.
 //!
-//! What a disk holds can't be known in advance. So a clause speaks of what was seen: of all contents that the disks may
-//! have, those that agree with every read so far. If a disk returns other bytes for a sector than before, no contents
-//! agree.
+//! What a disk contains can't be known in advance. So contracts speak of what has been seen: of all contents that the
+//! disks could have, those that agree with every read so far. If a disk returns different bytes for the same sector,
+//! no contents agree.
 
 ghost use Rattle.lvm_head.specs.Base.{AreRead, List, length};
 ghost use Rattle.dm_table.specs.declared.tables.disk_path.DiskPath.{DiskPath};
@@ -12,16 +12,16 @@ ghost use Rattle.std.specs.Prelude.{◌≡◌, ◌≤◌, ◌%◌, ◌^◌};
 
 pub use dm_table::{MOST_BYTES, ReadFault, SECTOR};
 
-/// Disks that can be read, each known by its number.
+/// Disks that can be read, each identified by a number.
 pub trait Disks {
-    /// The entries of the disks in a path list, by number, if there is such a list. No read changes it.
+    /// The path list's entries for the disks, by number; none if there is no path list. Reads don't change the entries.
     ghost listed: { Self → List DiskPath };
 
-    /// Holds for the contents of all disks that agree with every read so far. Before the first read it has to hold for
-    /// all contents, which an implementation must make sure of.
+    /// Holds for contents of all disks that agree with every read so far. An implementation must make sure that, before
+    /// the first read, all possible contents agree.
     ghost IsSeen: { Self → Contents → Type 0 };
 
-    /// Reads whole sectors of a disk, from number `sector` on. After a fault the slice may hold anything.
+    /// Reads whole sectors of a disk, from sector `sector` on. After a fault the slice may contain anything.
     fn read(&mut self, disk: usize, sector: u64, into: &mut [u8]) -> Result<(), ReadFault>
         requires whole { length into.old % SECTOR ≡ 0 }
         requires some { SECTOR ≤ length into.old }
@@ -35,7 +35,7 @@ pub trait Disks {
             → AreRead (held disk) sector result into.new → IsSeen self.new held };
 }
 
-/// Reads one sector of a disk. After a fault the slice may hold anything.
+/// Reads one sector of a disk. After a fault the slice may contain anything.
 pub fn read_sector<D: Disks>(
     disks: &mut D,
     disk: usize,

@@ -11,7 +11,7 @@ use crate::text::read_area;
 use std::alloc::Global;
 use std::marker::Model;
 
-/// What the head of a disk says: the id of its physical volume, and the metadata text of its group, or an empty one.
+/// The content of a disk's head: the id of the physical volume, and the metadata text, which may be empty.
 #[derive(Debug, Drop)]
 pub(crate) struct Head {
     pub id: [u8; 32],
@@ -26,7 +26,7 @@ impl Model for Head {
     ghost view = { λ head. record { id = head.id; text = head.text.items } };
 }
 
-/// The common text of two, each of which may be empty for no text; fails if both have one and they differ.
+/// The common text of two texts, each of which may be empty for no text; fails if neither is empty and they differ.
 pub(crate) fn same_text(text: Vec<u8>, next: Vec<u8>) -> Result<Vec<u8>, HeadFault>
     ensures { Returns (λ text. text.items) result (same_text text.items next.items) }
 {
@@ -42,7 +42,7 @@ pub(crate) fn same_text(text: Vec<u8>, next: Vec<u8>) -> Result<Vec<u8>, HeadFau
     Ok(text)
 }
 
-/// Reads the texts of all areas of a disk, and returns the one they have in common, or an empty one if none has any.
+/// Reads the texts of all areas of a disk, and returns their common text, or an empty text if no area contains one.
 fn read_areas<D: Disks>(
     alloc: Global,
     disks: &mut D,
@@ -68,7 +68,7 @@ fn read_areas<D: Disks>(
     Ok(text)
 }
 
-/// Reads the head of a disk: checks that it is a whole physical volume, then reads its label and its areas.
+/// Reads the head of a disk: checks that the disk is a physical volume as a whole, then reads its label and areas.
 pub(crate) fn read_head<D: Disks>(
     alloc: Global,
     disks: &mut D,

@@ -1,4 +1,4 @@
-//! Reads the heads of all disks of a group.
+//! Reads the heads of all disks of a volume group.
 
 ghost use Rattle.lvm_head.specs.Prelude.{Err, IfErr, IfOk, Ok, list_any, bytes_eq, Contents, Returns, heads_of, joined, Memory};
 ghost use Rattle.std.specs.Prelude.{◌≡◌, ◌≢◌, ◌<◌};
@@ -9,7 +9,7 @@ use crate::head::{Head, read_head, same_text};
 use std::alloc::Global;
 use std::marker::Model;
 
-/// What the heads of several disks say: each physical volume's id, and their group's metadata text, or an empty one.
+/// The content of several disks' heads: each physical volume's id, and the common metadata text, which may be empty.
 #[derive(Debug, Drop)]
 pub struct Heads {
     pub ids: Vec<[u8; 32]>,
@@ -31,7 +31,7 @@ fn has_id(ids: &[[u8; 32]], id: [u8; 32]) -> bool
     ids.contains(&id)
 }
 
-/// Adds the head of one more disk; fails if its text differs or its id is there already.
+/// Adds the head of one more disk; fails if the new head's text differs or its id is among the ids so far.
 fn joined(heads: Heads, head: Head) -> Result<Heads, HeadFault>
     ensures { Returns (λ heads. heads) result (joined heads head) }
 {
@@ -48,17 +48,17 @@ fn joined(heads: Heads, head: Head) -> Result<Heads, HeadFault>
     Ok(Heads { ids, text })
 }
 
-/// Reads the heads of disks 0 to `count` - 1, which are the physical volumes of one group.
+/// Reads the heads of disks 0 to `count` - 1, which are the physical volumes of one volume group.
 ///
-/// The label, header and areas of each disk are read with all their checksums, and each text in force. All texts
-/// must be equal. A disk that has partitions, or is a member of an md array, is refused.
+/// The label, the header, the areas and the current texts of each disk are read, and all their checksums are checked.
+/// All texts must be equal. A disk that has partitions, or is a member of an md array, is refused.
 ///
 /// Cost: linear in the sectors of labels and texts, and one comparison of ids for each pair of disks. At most two texts
-/// are in memory at once, of at most 1 MiB each.
+/// are in memory at once, each of at most 1 MiB.
 ///
 /// # Errors
 ///
-/// The first disk whose head is refused, with the first fault met while the head is read and compared with the others.
+/// The first disk whose head is refused, with the first fault found while the head is read and compared with others.
 /// `Memory` if an allocation was refused.
 pub fn read_heads<D: Disks>(
     alloc: Global,

@@ -1,4 +1,4 @@
-//! The label of a physical volume, and the header in the label's sector.
+//! The label of a physical volume, and the physical volume's header in the same sector.
 
 ghost use Rattle.lvm_head.specs.Prelude.{true, IfOk, length, map, slice_split, Contents, Returns, area_at, areas_in, has_sectors, header_at, id_of, is_entry, is_member, is_partitioned, is_sound, is_taken, label_of, pairs_of, undivided};
 ghost use Rattle.dm_table.specs.declared.io.sectors.TheConstants.{SECTOR};
@@ -16,19 +16,19 @@ use std::marker::Model;
 /// The bytes `LABELONE`, with which a label begins.
 const LABEL: u64 = 0x454E_4F4C_4542_414C;
 
-/// The bytes `LVM2 001`, which say what kind of label it is.
+/// The bytes `LVM2 001`, which mark a label as an LVM2 label.
 const KIND: u64 = 0x3130_3020_324D_564C;
 
 /// The magic number with which the superblock of an md array's member begins.
 const MEMBER: u32 = 0xA92B_4EFC;
 
-/// The most pairs that a header has room for.
+/// The most pairs, each of the start and the size of an area, that a header has room for.
 const MOST_PAIRS: usize = 27;
 
-/// The most metadata areas of a disk: lvm2 makes one or two.
+/// The most metadata areas that a disk may have: lvm2 creates one or two.
 const MOST_AREAS: usize = 2;
 
-/// Whether the partition table entry at `at` describes a partition: its number of sectors isn't 0.
+/// Whether the partition table entry at offset `at` describes a partition: its number of sectors isn't 0.
 fn has_sectors(sector: &[u8], at: usize) -> bool
     requires { at + 16 ≤ length sector.now }
     ensures { result ≡ has_sectors sector.now at }
@@ -36,7 +36,7 @@ fn has_sectors(sector: &[u8], at: usize) -> bool
     four_at(sector, at + 12) != 0
 }
 
-/// Whether the partition table entry at `at` begins as a valid one does, with 0 or 0x80.
+/// Whether the partition table entry at offset `at` is valid: its first byte is 0 or 0x80.
 fn is_entry(sector: &[u8], at: usize) -> bool
     requires { at < length sector.now }
     ensures { result ≡ is_entry sector.now at }
@@ -44,7 +44,7 @@ fn is_entry(sector: &[u8], at: usize) -> bool
     sector[at] % 128 == 0
 }
 
-/// Whether the first sector of a disk has a partition table.
+/// Whether the first sector of a disk contains a partition table.
 fn is_partitioned(sector: &[u8]) -> bool
     requires { length sector.now ≡ SECTOR }
     ensures { result ≡ is_partitioned sector.now }
@@ -92,7 +92,7 @@ pub(crate) fn undivided<D: Disks>(disks: &mut D, disk: usize) -> Result<(), Head
     Ok(())
 }
 
-/// The sector of a valid label. A contract sees its bytes.
+/// The sector of a valid label. A contract sees the bytes of the sector.
 #[derive(Debug, Drop)]
 pub(crate) struct Label {
     sector: [u8; SECTOR],
@@ -111,7 +111,7 @@ impl Model for Label {
 }
 
 impl Label {
-    /// Reads the label of a disk: the first of sectors 0 to 3 that lvm2 regards as one.
+    /// Reads the label of a disk: the first of sectors 0 to 3 that lvm2 regards as a label.
     pub(crate) fn read<D: Disks>(disks: &mut D, disk: usize) -> Result<Label, HeadFault>
         ensures listed { D.listed disks.new ≡ D.listed disks.old }
         ensures still { (held : Contents) → D.IsSeen disks.new held → D.IsSeen disks.old held }
@@ -134,7 +134,7 @@ impl Label {
         Err(HeadFault::Label)
     }
 
-    /// Where the header begins in the label's sector, in bytes.
+    /// The offset in the label's sector at which the physical volume's header begins, in bytes.
     fn header_at(&self) -> usize
         ensures is { result ≡ header_at self.now }
         ensures after { 32 ≤ result }
@@ -165,7 +165,7 @@ impl Label {
         }
     }
 
-    /// All pairs that fit between the header's fixed part and the end of the sector.
+    /// All pairs of the header's lists: as many as fit between the header's fixed part and the end of the sector.
     pub(crate) fn pairs(&self) -> ArrayVec<Area, MOST_PAIRS>
         ensures { result.items ≡ pairs_of self.now }
     {
@@ -177,7 +177,7 @@ impl Label {
     }
 }
 
-/// The metadata areas among the pairs of a header: the second list.
+/// The metadata areas among the pairs of a header: the second of the lists that the pairs form.
 pub(crate) fn areas_of(alloc: Global, pairs: &[Area]) -> Result<&[Area], HeadFault>
     ensures { Returns (λ areas. areas.now) result (areas_in (slice_split (λ area. area.start == 0) pairs.now)) }
 {
@@ -188,7 +188,7 @@ pub(crate) fn areas_of(alloc: Global, pairs: &[Area]) -> Result<&[Area], HeadFau
     }
 }
 
-/// Cuts pairs into lists: a pair that begins at 0 ends a list.
+/// Cuts the pairs of a header into lists: a pair with start 0 ends a list.
 fn lists_of(alloc: Global, pairs: &[Area]) -> Result<Vec<&[Area]>, AllocError>
     ensures { IfOk result (λ lists. map (λ list. list.now) lists.items ≡ slice_split (λ area. area.start == 0) pairs.now) }
 {

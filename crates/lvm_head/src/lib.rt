@@ -1,8 +1,8 @@
-//! Reads the head of an LVM2 physical volume: its label, its header, and the metadata text of its group. Disks are
-//! read in sectors.
+//! Reads the head of an LVM2 physical volume: the label, the header, and the metadata text of the volume group. Disks
+//! are read in sectors.
 //!
-//! `specs/Heads.antt` defines what the head of a disk says, from its sectors, and what the heads of a group say;
-//! `read_heads` reads them.
+//! `specs/Heads.antt` defines the content of a disk's head, from the disk's sectors, and of the heads of a volume
+//! group; `read_heads` reads the heads of a volume group.
 #![tactic(auto)]
 
 mod area;

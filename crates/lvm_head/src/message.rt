@@ -1,6 +1,6 @@
 //! The one-line message for a refused head.
 //!
-//! The words are fixed in `specs/Message.antt`, because users match on them.
+//! `specs/Message.antt` fixes the words for faults, because users match on them.
 
 ghost use Rattle.lvm_head.specs.Prelude.{length, fault_word, head_message};
 ghost use Rattle.std.specs.Prelude.{◌≡◌, ◌≤◌};
@@ -13,7 +13,7 @@ use dm_table::{DiskName, append, memory_message};
 pub type HeadMessage = ArrayVec<u8, 282>;
 
 impl HeadFault {
-    /// The word for the fault in messages.
+    /// The word for this fault in a message.
     fn word(self) -> &'static str
         ensures word { result.now ≡ fault_word self }
         ensures short { length result.now ≤ 10 }
@@ -35,8 +35,8 @@ impl HeadFault {
         }
     }
 
-    /// The message line: the disk's name, and the word for the fault. `Memory` has the message for any run that is out
-    /// of memory. Allocates nothing.
+    /// The message line: the disk's name, and the word for the fault. `Memory` has a message of its own, which
+    /// doesn't name the disk. Allocates nothing.
     #[tactic(auto, using(dm_table::proofs::ByteLemmas::disk_name_len))]
     pub fn message(self, disk: &DiskName) -> HeadMessage
         ensures { result.items ≡ head_message disk.now self }

@@ -1,12 +1,12 @@
-//! The checksums of labels, headers and texts: CRC-32 with zlib's polynomial, another initial value, and no inversion.
+//! The checksums of labels, headers and texts: CRC-32 as in zlib, but with another initial value and no inversion.
 
 ghost use Rattle.lvm_head.specs.Prelude.{sum_byte, sum_of};
 ghost use Rattle.std.specs.Prelude.{◌≡◌};
 
-/// The checksum of no bytes.
+/// The checksum of an empty slice, from which every checksum starts.
 const FIRST_SUM: u32 = 0xF597_A6CF;
 
-/// For each value of a byte, the effect of eight single-bit steps on it.
+/// For each value of a byte, the checksum after eight single-bit steps from that value.
 static EIGHT_STEPS: [u32; 256] = [
     0x00000000, 0x77073096, 0xee0e612c, 0x990951ba, 0x076dc419, 0x706af48f, 0xe963a535, 0x9e6495a3,
     0x0edb8832, 0x79dcb8a4, 0xe0d5e91e, 0x97d2d988, 0x09b64c2b, 0x7eb17cbd, 0xe7b82d07, 0x90bf1d91,
@@ -52,7 +52,7 @@ fn sum_byte(sum: u32, byte: u8) -> u32
 
 /// The checksum of bytes.
 ///
-/// Cost: one look-up in a table of 1 KiB for each byte.
+/// Cost: for each byte, one look-up in a table of 1 KiB.
 pub fn sum_of(bytes: &[u8]) -> u32
     ensures { result ≡ sum_of bytes.now }
 {

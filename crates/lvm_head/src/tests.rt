@@ -1,4 +1,4 @@
-//! Expected results for heads of disks in memory.
+//! Tests of the heads of disks in memory.
 
 ghost use Rattle.lvm_head.specs.Prelude.{[], ℕ, Err, Ok, length, nat_le, nat_lt, not, slice_range};
 ghost use Rattle.std.specs.Prelude.{◌≡◌, ◌+◌, ◌*◌, ◌==◌, ◌&&◌, if◌then◌else◌};
@@ -11,8 +11,8 @@ use std::process::Abort;
 /// How many sectors each disk has.
 const SECTORS: usize = 16;
 
-/// Disks in memory, one after the other; the last one may end early. Sector number `bad`, counted over all disks,
-/// can't be read. Reads of more than one sector fail, as the trait allows.
+/// Disks in memory, one after the other; the last disk may end early. Sector number `bad`, counted over all disks,
+/// can't be read. Reads of more than one sector fail, which the trait allows.
 #[derive(Drop)]
 struct MemoryDisks<'a> {
     bytes: &'a [u8],
@@ -45,11 +45,11 @@ impl Disks for MemoryDisks<'_> {
 /// A number to write into a disk: its offset, its width in bytes, and its value.
 type Change = (usize, usize, u64);
 
-/// A disk: the sector of its label, the offset of the texts in their areas, the texts of its two areas, of which the
-/// label lists the first, and numbers to change before the checksums are made.
+/// A disk: the sector of the label, the offset of the texts in their areas, the texts of the two areas, of which the
+/// label lists only the first, and numbers to change before the checksums are computed.
 type Row = (usize, usize, [&'static str; 2], &'static [Change]);
 
-/// The bytes of a disk at which its two areas begin.
+/// The offsets in a disk at which its two areas begin, in bytes.
 const AREAS: [usize; 2] = [2048, 4608];
 
 /// The size of an area in bytes.
@@ -61,7 +61,7 @@ const NAME: u64 = 0x454E_4F4C_4542_414C;
 /// The bytes `LVM2 001`.
 const KIND: u64 = 0x3130_3020_324D_564C;
 
-/// The numbers in the sector of a label, with those of its header.
+/// The numbers in the sector of a label, including those of the physical volume's header.
 const LABEL: [Change; 9] = [
     (0, 8, NAME),
     (20, 4, 32),
@@ -74,7 +74,7 @@ const LABEL: [Change; 9] = [
     (112, 8, 2048),
 ];
 
-/// The numbers in the header of an area that are the same for all areas.
+/// The numbers in the header of an area that all areas have in common.
 const HEADER: [Change; 4] = [
     (4, 8, 0x5B78_2032_4D56_4C20),
     (12, 8, 0x3E2A_4E30_7225_4135),
@@ -122,7 +122,7 @@ fn write_area(rt: &impl Abort, disk: &mut [u8], start: usize, offset: usize, tex
     }
 }
 
-/// Writes little-endian numbers, whose offsets count from `from`.
+/// Writes little-endian numbers into a disk; their offsets count from `from`.
 fn write(rt: &impl Abort, disk: &mut [u8], from: usize, changes: &[Change]) {
     for (at, width, number) in changes {
         let bytes = number.to_le_bytes();
@@ -153,7 +153,7 @@ fn disks_of(rt: &impl Abort, alloc: Global, rows: &[Row]) -> Vec<u8> {
     bytes
 }
 
-/// Compares what is read from the first `count` disks with the text, or the refusal, that a row expects.
+/// Compares the text or the refusal that reading the first `count` disks returns with the one that a row expects.
 fn compare(
     rt: &impl Abort,
     alloc: Global,
@@ -175,13 +175,13 @@ fn compare(
     }
 }
 
-/// The texts of both areas of most disks.
+/// The texts of the two areas in most rows.
 const TEXTS: [&str; 2] = ["ab\n\0", "ab\n\0"];
 
-/// Single disks, and the text or the fault that each gives.
+/// Single disks, and the text or the fault that reading each returns.
 static ROWS: [(Row, Result<&str, HeadFault>); 51] = [
     ((1, 512, TEXTS, &[]), Ok("ab\n")),
-    // The label: its sector, its magic words, and where its header begins.
+    // The label: its sector, its magic bytes, and where the header begins.
     ((0, 512, TEXTS, &[]), Ok("ab\n")),
     ((3, 512, TEXTS, &[]), Ok("ab\n")),
     ((12, 512, TEXTS, &[]), Err(HeadFault::Label)),
@@ -190,10 +190,10 @@ static ROWS: [(Row, Result<&str, HeadFault>); 51] = [
     ((1, 512, TEXTS, &[(532, 4, 31)]), Err(HeadFault::Label)),
     ((1, 512, TEXTS, &[(532, 4, 473)]), Err(HeadFault::Label)),
     ((1, 512, TEXTS, &[(543, 1, 0x32)]), Err(HeadFault::Label)),
-    // Sectors that lvm2 regards as labels, though they aren't: `LVM2 001` alone. With `LABELONE`, the checksum counts.
+    // Sectors with `LVM2 001` alone, which lvm2 regards as labels. With `LABELONE` too, the checksum must be right.
     ((1, 512, TEXTS, &[(24, 8, KIND)]), Err(HeadFault::Label)),
     ((1, 512, TEXTS, &[(0, 8, NAME), (24, 8, KIND)]), Ok("ab\n")),
-    // Partition tables, and three that are none: without sectors, with a bad first byte, and without 55 AA.
+    // Partition tables, and three invalid ones: without sectors, with a bad first byte, and without 55 AA.
     (
         (1, 512, TEXTS, &[(458, 4, 1), (510, 2, 0xAA55)]),
         Err(HeadFault::Partitions),
@@ -225,7 +225,7 @@ static ROWS: [(Row, Result<&str, HeadFault>); 51] = [
         (1, 512, TEXTS, &[(4096, 4, 0xA92B_4EFC)]),
         Err(HeadFault::Array),
     ),
-    // The lists of areas: no pair at all, both empty in the last two pairs, and the second one without an end.
+    // The lists of areas: no pairs at all, both lists empty in the last two pairs, and a second list without an end.
     ((1, 512, TEXTS, &[(532, 4, 472)]), Err(HeadFault::Header)),
     ((1, 512, TEXTS, &[(532, 4, 440), (984, 8, 8192)]), Ok("")),
     (
@@ -267,7 +267,7 @@ static ROWS: [(Row, Result<&str, HeadFault>); 51] = [
     ((1, 512, TEXTS, &[(2068, 4, 2)]), Err(HeadFault::Header)),
     ((1, 512, TEXTS, &[(2072, 8, 4096)]), Err(HeadFault::Header)),
     ((1, 512, TEXTS, &[(2080, 8, 2049)]), Err(HeadFault::Header)),
-    // Where the text is: nowhere, at the ring's edges, too long, and around the ring's end.
+    // Where the text is: nowhere, at the edges of the ring buffer, too long, and across the end of the ring buffer.
     ((1, 512, TEXTS, &[(2088, 8, 0)]), Ok("")),
     ((1, 512, TEXTS, &[(2096, 8, 0)]), Err(HeadFault::Text)),
     ((1, 512, TEXTS, &[(2108, 4, 1)]), Ok("")),
@@ -335,7 +335,7 @@ static ROWS: [(Row, Result<&str, HeadFault>); 51] = [
     ),
 ];
 
-/// A second disk after a plain one, and the text that both have, or the fault of the second.
+/// A second disk, read after that of the first row of `ROWS`, and the text of both, or the fault of the second disk.
 static PAIRS: [(Row, Result<&str, HeadFault>); 4] = [
     ((1, 512, TEXTS, &[]), Err(HeadFault::Twice)),
     ((1, 512, TEXTS, &[(544, 1, 0x7A)]), Ok("ab\n")),
@@ -346,7 +346,7 @@ static PAIRS: [(Row, Result<&str, HeadFault>); 4] = [
     ((0, 512, TEXTS, &[(32, 1, 0x7A), (2108, 4, 1)]), Ok("ab\n")),
 ];
 
-/// Sectors that can't be read, and the text or the fault then.
+/// A sector that can't be read, and the text or the fault that reading the disk then returns.
 static BAD: [(usize, Result<&str, HeadFault>); 6] = [
     (0, Err(HeadFault::Unread)),
     (1, Err(HeadFault::Unread)),
@@ -359,7 +359,7 @@ static BAD: [(usize, Result<&str, HeadFault>); 6] = [
 #[test]
 fn heads_are_read_or_refused(rt: HostRuntime) {
     let alloc = rt.alloc();
-    // The first expected checksum was computed with zlib; the second is lvm2's for no bytes.
+    // The first expected checksum was computed with zlib; the second is lvm2's checksum of an empty slice.
     assert_eq!(&rt; sum_of(b"123456789"), 0x4991_CF02);
     assert_eq!(&rt; sum_of(b""), 0xF597_A6CF);
     for (number, (row, want)) in ROWS.iter().enumerate() {
@@ -388,7 +388,7 @@ fn heads_are_read_or_refused(rt: HostRuntime) {
     }
 }
 
-/// The result that a row expects, with its fault as one of this disk.
+/// The result that a row expects, with a fault turned into the refusal of this disk.
 fn at_disk(disk: usize, want: Result<&str, HeadFault>) -> Result<&str, HeadRefusal> {
     match want {
         Ok(text) => Ok(text),

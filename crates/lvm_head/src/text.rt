@@ -1,4 +1,4 @@
-//! Reads the metadata text in force from an area.
+//! Reads the current metadata text from an area.
 
 ghost use Rattle.lvm_head.specs.Prelude.{ℕ, Err, Ok, true, IfErr, IfOk, OnOk, length, slice_index, is_within, Contents, sector_in, Returns, area_text, byte_at, ended, ring_bytes, text_at};
 ghost use Rattle.dm_table.specs.declared.io.sectors.TheConstants.{MOST_BYTES};
@@ -12,7 +12,7 @@ use crate::fault::HeadFault;
 use crate::sums::sum_of;
 use std::alloc::Global;
 
-/// The most bytes of a metadata text.
+/// The most bytes that a metadata text may have.
 const MOST_TEXT: u64 = 1_048_576;
 
 /// Reads `count` consecutive sectors of a disk into the front of a block.
@@ -38,8 +38,8 @@ fn read_sectors<D: Disks>(
     disks.read(disk, start, &mut block[..len])
 }
 
-/// Reads up to `len` consecutive bytes of a disk into a block, and returns how many: all, or, if that read fails, those
-/// in the first sector. The first byte is at offset `place` % 512 of the block.
+/// Reads up to `len` consecutive bytes of a disk into a block, and returns how many: all, or, if reading all fails,
+/// only those in the first sector. The first byte is at offset `place` % 512 of the block.
 fn read_row<D: Disks>(
     disks: &mut D,
     disk: usize,
@@ -70,7 +70,7 @@ fn read_row<D: Disks>(
     }
 }
 
-/// Reads all bytes of a text, around the end of the ring if need be.
+/// Reads all bytes of a text, continuing at the start of the ring buffer if the text reaches the ring buffer's end.
 fn read_ring<D: Disks>(
     alloc: Global,
     disks: &mut D,
@@ -105,7 +105,7 @@ fn read_ring<D: Disks>(
     Ok(bytes)
 }
 
-/// The text in the bytes: without the NUL that ends them, or with the newline that does; fails at any other end.
+/// The text in the bytes: without the NUL if they end with one, or all if they end with a newline; else a fault.
 fn ended(mut bytes: Vec<u8>) -> Result<Vec<u8>, HeadFault>
     requires { 1 ≤ length bytes.items }
     ensures { Returns (λ text. text.items) result (ended bytes.items) }
@@ -120,7 +120,7 @@ fn ended(mut bytes: Vec<u8>) -> Result<Vec<u8>, HeadFault>
     }
 }
 
-/// Reads the text at a location in the area that begins at byte `start`.
+/// Reads the text at a location in the area that begins at byte `start` of the disk.
 fn read_text<D: Disks>(
     alloc: Global,
     disks: &mut D,
@@ -158,7 +158,7 @@ fn read_text<D: Disks>(
     }
 }
 
-/// Reads the text of an area. It is empty if the area is to be ignored, or has no text yet.
+/// Reads the text of an area. The text is empty if the area is to be ignored or contains no text yet.
 pub(crate) fn read_area<D: Disks>(
     alloc: Global,
     disks: &mut D,

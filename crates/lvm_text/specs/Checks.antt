@@ -1,26 +1,26 @@
--- The checks of tokens that are a text of the grammar. Each check gives the lines where it finds a fault, in source order.
+-- The checks of tokens that form, by the grammar, a text. Each check lists the lines where it finds a fault, in source order.
 use Rattle.lvm_text.specs.Base.{ℕ, suc, Bool, true, false, nat_lt, List, [], Option, Some, None, is_none, bytes_eq, list_any, TextFault, Deep, Number, KeyTwice}
 use Rattle.lvm_text.specs.Token.{Token, Word, Open, Close, ListOpen, Equals, Comma, TokenAtLine}
 use Rattle.lvm_text.specs.Tree.{Values, Nothing, Section, Single, Several}
 use Rattle.lvm_text.specs.Grammar.{number_of}
 use Rattle.std.specs.Prelude.{◌-◌, ◌&&◌, ◌∷◌, ◌++◌, if◌then◌else◌}
 
--- the line n in front of later lines, if the test b is true
+-- the list of lines with line n in front if `b` is true, else unchanged
 abbrev pub hit : Bool → ℕ → List ℕ → List ℕ
 hit b n later = if b then n ∷ later else later
 
--- the first line in a list of lines, if there is one
+-- the first line in a list of lines, or None if the list is empty
 abbrev pub head_line : List ℕ → Option ℕ
 head_line [] = None
 head_line (n ∷ ns) = Some n
 
--- the nesting level after a token, from the level before it
+-- the nesting level after a token, from the level before the token
 abbrev pub level_after : Token → ℕ → ℕ
 level_after Open level = suc level
 level_after Close level = level - 1
 level_after _ level = level
 
--- the token is a brace that opens level 17 or deeper; `level` is the level before it
+-- the token is a brace that opens level 17 or deeper; `level` is the level before the brace
 abbrev pub opens_deep : Token → ℕ → Bool
 opens_deep Open level = nat_lt 15 level
 opens_deep _ level = false
@@ -30,28 +30,28 @@ abbrev pub deep_lines : ℕ → List TokenAtLine → List ℕ
 deep_lines level [] = []
 deep_lines level (t ∷ ts) = hit (opens_deep t.0 level) t.1 (deep_lines (level_after t.0 level) ts)
 
--- after this token, a word is a scalar and not a key
+-- a word after this token is a scalar and not a key
 abbrev pub leads_scalar : Token → Bool
 leads_scalar Equals = true
 leads_scalar ListOpen = true
 leads_scalar Comma = true
 leads_scalar _ = false
 
--- the token is a word that is no integer below 2^63 with at most 19 digits
+-- the token is a word that isn't an integer below 2^63 with at most 19 digits
 abbrev pub is_refused : Token → Bool
 is_refused (Word w) = is_none (number_of w)
 is_refused _ = false
 
--- the lines of integers that are out of range; `before` is the token in front of the others
+-- the lines of integers that are out of range; `before` is the token in front of the other tokens
 abbrev pub number_lines : Token → List TokenAtLine → List ℕ
 number_lines before [] = []
 number_lines before (t ∷ ts) = hit (leads_scalar before && is_refused t.0) t.1 (number_lines t.0 ts)
 
--- the key is in the list
+-- the key occurs in the list
 abbrev pub has_key : List ℕ → List (List ℕ) → Bool
 has_key key keys = list_any (λ k. bytes_eq k key) keys
 
--- the lines of keys that equal an earlier key of their section, which may be one of the keys `before`
+-- the lines of keys that equal an earlier key of their own section; `before` are the section's keys in front of these values
 abbrev pub twice_lines : List (List ℕ) → Values → List ℕ
 twice_lines before Nothing = []
 twice_lines before (Section k n inner rest) = hit (has_key k before) n (twice_lines [] inner ++ twice_lines (k ∷ before) rest)

@@ -1,4 +1,4 @@
--- The sections that an iterator has still to return.
+-- What an iterator over a section's inner sections returns, and what it has still to return.
 use Rattle.lvm_text.specs.Base.{ℕ, List, drop}
 use Rattle.lvm_text.specs.Tree.{Tree}
 use Rattle.lvm_text.specs.View.{sections_in}
@@ -6,7 +6,7 @@ use Rattle.lvm_text.specs.declared.tree.Section.{Section}
 use Rattle.lvm_text.specs.declared.lookup.Sections.{Sections}
 use denote.Ref.{Bor}
 
--- a key and its section, as the iterator returns them
+-- a pair of a key and its section that the iterator returns, as contracts see it
 abbrev pub item_view : Bor (List ℕ) × Bor Section → List ℕ × Tree
 item_view item = (item.0.now, item.1.now)
 

@@ -1,4 +1,4 @@
--- The names that contracts use, in this crate and in crates above, in one place.
+-- The names that contracts in this crate and in the crates above use, collected in one place.
 pub use Rattle.lvm_text.specs.Base.{BTreeMap, Err, IfErr, IfOk, IfSome, IsTrue, List, MatchOption, MatchResult, Memory, None, Ok, OnOk, Some, TextFault, [], arith, digits_value, drop, false, is_ascii, is_none, is_some, length, max, option_map, slice_index, suc, take, true, ℕ}
 pub use Rattle.lvm_text.specs.Build.{IsTwice, IsTwiceInside, ReadsLeaf, ReadsScalars, ReadsValue, ReadsValues, ShowsScalar, before, begins_key, bounded_of, is_comma, is_list_open, is_open, item_of, left, scalar_first}
 pub use Rattle.lvm_text.specs.Bytes.{code}

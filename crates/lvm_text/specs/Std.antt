@@ -1,4 +1,4 @@
--- The names from std that this crate uses, in one place.
+-- The names from std that this crate uses, collected in one place.
 pub use Rattle.std.specs.BTreeMap.{BTreeMap, Updates, get_by}
 pub use Rattle.std.specs.Char.{digit_value, is_ascii, is_ascii_alphanumeric, is_ascii_digit}
 pub use Rattle.std.specs.Cmp.Lexicographic.{slice_cmp}

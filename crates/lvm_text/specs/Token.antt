@@ -1,7 +1,7 @@
 -- The tokens of a text.
 use Rattle.lvm_text.specs.Base.{ℕ, List}
 
--- a word, the raw text between two quotes, or one of the signs { } [ ] = ,
+-- a token: a word, the raw text between the two quotes of a string, or one of the signs { } [ ] = ,
 pub data Token : Type 0 where
   Word : List ℕ → Token
   Text : List ℕ → Token

@@ -1,4 +1,4 @@
--- The tokens and elements of the code, as contracts see them: their bytes, without where they are in memory.
+-- The tokens and elements of the code, as contracts see them: as bytes, regardless of where these are in memory.
 use Rattle.lvm_text.specs.Base.{ℕ, List, map, Option, option_map}
 use Rattle.lvm_text.specs.Token as spec
 use Rattle.lvm_text.specs.declared.token.Token.{Token}

@@ -18,7 +18,7 @@ scalar_view (scalars.Text t) = tree.Text t.now
 abbrev pub scalar_views : List Scalar → List tree.Scalar
 scalar_views = map scalar_view
 
--- a value with its key and the key's line, in front of other values
+-- the values `rest` with one more value, its key and the key's line in front
 abbrev pub put : List ℕ → ℕ → Value → Values → Values
 put key line (variants.Section s) rest = tree.Section key line s.values rest
 put key line (variants.Int n) rest = Single key line (tree.Int n) rest
@@ -35,7 +35,7 @@ abbrev pub has_line : ℕ → Value → Bool
 has_line line (variants.Section s) = s.line == line
 has_line line _ = true
 
--- each section among the entries has the line of its key
+-- the line of each section among the entries is the line of its key
 abbrev pub lines_agree : List Entry → Bool
 lines_agree [] = true
 lines_agree (e ∷ es) = has_line e.node.line e.node.value && lines_agree es
@@ -47,16 +47,16 @@ content_view (variants.Int n) = Whole (tree.Int n)
 content_view (variants.Text t) = Whole (tree.Text t.now)
 content_view (variants.List v) = Items (scalar_views v.items)
 
--- a value and its line, as contracts see them
+-- a value and the line of its key, as contracts see them
 abbrev pub node_view : Node → Shown
 node_view n = record { line = n.line; content = content_view n.value }
 
--- a key with the section that it holds, in front of later ones; nothing if it holds no section
+-- the list `later` with a key and the section that the key holds in front, or `later` alone if the key doesn't hold a section
 abbrev pub put_section : List ℕ → Value → List (List ℕ × Tree) → List (List ℕ × Tree)
 put_section key (variants.Section s) later = (key, s) ∷ later
 put_section key _ later = later
 
--- the keys of entries that hold sections, each with its section, in order
+-- the keys of entries that hold sections, each with its section, in the order of the entries
 abbrev pub sections_in : List Entry → List (List ℕ × Tree)
 sections_in [] = []
 sections_in (e ∷ es) = put_section e.key.now e.node.value (sections_in es)

@@ -1,7 +1,7 @@
 //! Builds the tree of a text from its tokens, which the syntax check has accepted.
 //! Syntax, depth and integers have been checked before, so that the only fault left is a key that occurs twice. A key
-//! is looked up before its value is read, so that faults come in source order. An inner section is a recursive call,
-//! at most 16 deep, since depth has been checked.
+//! is looked up before its value is read, so that the first fault in source order is found. An inner section is read by
+//! a recursive call; there are at most 16 nested calls, because depth has been checked.
 
 ghost use Rattle.lvm_text.specs.Prelude.{[], drop, length, option_map, IfOk, IfErr, IfSome, MatchOption, ℕ, true, false, token_view, views, scalar_view, scalar_views, has_line, bounded_of, is_comma, is_open, is_list_open, begins_key, scalar_first, item_of, left, ReadsScalars, ShowsScalar, ReadsLeaf, ReadsValue, ReadsValues, IsTwice, IsTwiceInside, twice_lines, inner_lines};
 ghost use Rattle.std.specs.Prelude.{◌≡◌, ◌≤◌, ◌<◌, ◌+◌, ◌∷◌};
@@ -15,7 +15,7 @@ use crate::tree::{Entry, Node, Scalar, Section, Value};
 use std::alloc::{AllocError, Global};
 use std::collections::BTreeMap;
 
-/// The token at a position, or `None` past the end.
+/// The token at a position, or `None` past the last token.
 fn token_at<'a>(tokens: &[TokenAtLine<'a>], at: usize) -> Option<TokenAtLine<'a>>
     ensures { MatchOption result (drop at tokens.now ≡ [])
         (λ t. (drop at tokens.now ≡ t ∷ drop (at + 1) tokens.now) × (at < length tokens.now)) }
@@ -27,7 +27,7 @@ fn token_at<'a>(tokens: &[TokenAtLine<'a>], at: usize) -> Option<TokenAtLine<'a>
     }
 }
 
-/// The position after the token at `at`, or the end.
+/// The position after the token at `at`, or `at` if it is the end of the tokens.
 fn position_after(tokens: &[TokenAtLine<'_>], at: usize) -> usize
     requires { at ≤ length tokens.now }
     ensures rest { drop result tokens.now ≡ drop 1 (drop at tokens.now) }
@@ -37,7 +37,7 @@ fn position_after(tokens: &[TokenAtLine<'_>], at: usize) -> usize
     if at < tokens.len() { at + 1 } else { at }
 }
 
-/// The key at a position and its line, or `None` if no word is there.
+/// The key at a position and the key's line, or `None` if the token at that position isn't a word.
 fn key_at<'a>(tokens: &[TokenAtLine<'a>], at: usize) -> Option<(&'a str, u64)>
     ensures { MatchOption result (begins_key (views (drop at tokens.now)) ≡ false)
         (λ r. (views (drop at tokens.now) ≡ (spec.Word r.0.now, r.1) ∷ views (drop (at + 1) tokens.now))
@@ -50,7 +50,7 @@ fn key_at<'a>(tokens: &[TokenAtLine<'a>], at: usize) -> Option<(&'a str, u64)>
     }
 }
 
-/// A token as a scalar. An earlier check has refused integers out of range, so none occurs here.
+/// A token as a scalar, or `None` if the token isn't one. An earlier check has refused integers out of range.
 fn scalar_of(token: Token<'_>) -> Option<Scalar<'_>>
     ensures { option_map scalar_view result ≡ bounded_of (token_view token.entry) }
 {
@@ -95,7 +95,7 @@ fn position_after_comma(tokens: &[TokenAtLine<'_>], at: usize) -> usize
     if is_comma(first.token) { at + 1 } else { at }
 }
 
-/// The next scalar of a list, after a comma if there is one, and the position after the scalar.
+/// The next scalar of a list, after a comma if there is one at `at`, and the position after the scalar.
 fn item_at<'a>(tokens: &[TokenAtLine<'a>], at: usize) -> Option<(Scalar<'a>, usize)>
     ensures item { option_map (λ r. (scalar_view r.0, views (drop r.1 tokens.now))) result
         ≡ item_of (views (drop at tokens.now)) }
@@ -109,7 +109,7 @@ fn item_at<'a>(tokens: &[TokenAtLine<'a>], at: usize) -> Option<(Scalar<'a>, usi
     }
 }
 
-/// The value for a scalar. The syntax check has made sure that there is one, so any value will do for `None`.
+/// The value for a scalar. The syntax check has made sure that there is a scalar, so any value will do for `None`.
 fn value_of_scalar(scalar: Option<Scalar<'_>>) -> Value<'_>
     ensures shows { ShowsScalar scalar.entry result }
     ensures no_section { (n : ℕ) → has_line n result ≡ true }
@@ -129,7 +129,7 @@ pub(crate) struct Builder<'t, 'a> {
 }
 
 impl<'t, 'a> Builder<'t, 'a> {
-    /// The scalars of a list, whose opening bracket comes before `start`, and the position after the closing bracket.
+    /// The scalars of a list whose opening bracket comes before `start`, and the position after its closing bracket.
     fn scalars_at(&self, start: usize) -> Result<(Vec<Scalar<'a>>, usize), AllocError>
         requires { start ≤ length self.now.tokens.now }
         ensures read { IfOk result
@@ -145,7 +145,7 @@ impl<'t, 'a> Builder<'t, 'a> {
         Ok((scalars, position_after(self.tokens, at)))
     }
 
-    /// The scalar or list after an equals sign, and the position after it.
+    /// The scalar or list that begins at `start`, after an equals sign, and the position after that value.
     fn leaf_at(&self, start: usize) -> Result<(Value<'a>, usize), AllocError>
         requires { start ≤ length self.now.tokens.now }
         ensures read { IfOk result (λ r. ReadsLeaf (left self.now start) r.0 (left self.now r.1)) }
@@ -162,7 +162,7 @@ impl<'t, 'a> Builder<'t, 'a> {
         Ok((value_of_scalar(scalar_of(first.token)), start + 1))
     }
 
-    /// The value of a key that is on this line, from the token after the key, and the position after the value.
+    /// The value of a key on this line, read from `start`, which is after the key, and the position after the value.
     #[cycle(build)]
     fn value_at(&self, line: u64, start: usize) -> Result<(Value<'a>, usize), TextFault>
         requires { start ≤ length self.now.tokens.now }
@@ -182,8 +182,8 @@ impl<'t, 'a> Builder<'t, 'a> {
         Ok(self.leaf_at(start + 1)?)
     }
 
-    /// The section whose key is on this line and whose values begin at `start`, and the position after them. If a key
-    /// in it or in an inner section equals an earlier key of the same section, the first of these is the fault.
+    /// The section whose key is on this line and whose values begin at `start`, and the position after the values. The
+    /// fault is at the first key, in the section or inside it, that equals an earlier key of its own section.
     #[cycle(build)]
     pub(crate) fn section_at(
         &self,
@@ -212,7 +212,7 @@ impl<'t, 'a> Builder<'t, 'a> {
             add_entry(&mut entries, &mut index, Entry { key, node })?;
             at = after;
         }
-        // Most sections have few keys, and the spare capacity would be most of the memory.
+        // Most sections have few keys, so that spare capacity would be most of the memory used.
         entries.shrink_to_fit();
         let section = Section {
             line,

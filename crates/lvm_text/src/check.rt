@@ -1,5 +1,5 @@
-//! Checks of tokens that are a text by the grammar.
-//! Each returns the first line, in source order, where it finds a fault; the caller runs them in their fixed order.
+//! Checks of tokens that form, by the grammar, a text.
+//! Each check returns the first line where it finds a fault; the caller runs the checks in a fixed order.
 
 ghost use Rattle.lvm_text.specs.Prelude.{token_view, views, head_line, level_after, opens_deep, deep_lines, leads_scalar, is_refused, number_lines};
 ghost use Rattle.std.specs.Prelude.{◌≡◌, ◌<◌, ◌^◌};
@@ -8,7 +8,7 @@ ghost use Rattle.lvm_text.specs.Token as spec;
 use crate::number::number_of;
 use crate::token::{Token, TokenAtLine};
 
-/// Whether a token opens level 17 or deeper; `level` is the level before it.
+/// Whether a token opens level 17 or deeper; `level` is the level before the token.
 fn opens_deep(token: Token<'_>, level: u64) -> bool
     ensures { result ≡ opens_deep (token_view token.entry) level }
 {
@@ -18,7 +18,7 @@ fn opens_deep(token: Token<'_>, level: u64) -> bool
     }
 }
 
-/// The nesting level after a token; `level` is the level before it.
+/// The nesting level after a token; `level` is the level before the token.
 fn level_after(token: Token<'_>, level: u64) -> u64
     requires { level < 2 ^ 63 }
     ensures { result ≡ level_after (token_view token.entry) level }
@@ -54,7 +54,7 @@ fn leads_scalar(token: Token<'_>) -> bool
     }
 }
 
-/// Whether a token is a word that is no integer below 2^63 with at most 19 digits.
+/// Whether a token is a word that isn't an integer below 2^63 with at most 19 digits.
 fn is_refused(token: Token<'_>) -> bool
     ensures { result ≡ is_refused (token_view token.entry) }
 {

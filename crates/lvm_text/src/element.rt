@@ -1,6 +1,6 @@
-//! The elements of a text: white bytes, comments and tokens.
-//! A text is cut into elements from its front, and the first byte says which element comes. A new kind of token
-//! needs a case in `element_at`.
+//! The elements of a text: whitespace bytes, comments and tokens.
+//! A text is cut into elements from front to end, and the first byte of an element decides which kind it is. A new
+//! kind of token needs a case in `element_from`.
 
 ghost use Rattle.lvm_text.specs.Prelude.{suc, None, Some, length, take, drop, slice_index, option_map, IfSome, IsTrue, is_ascii, Lexeme, comment_from, string_from, leading_word_bytes, sign_of, element_from, element_at, element_view, found_view, token_view};
 ghost use Rattle.std.specs.Prelude.{◌≡◌, ◌<◌, ◌∷◌};
@@ -10,7 +10,7 @@ ghost use Rattle.lvm_text.specs.Token as spec;
 use crate::scan::{is_white, is_word_byte, leading_word_bytes, newline_at, raw_length};
 use crate::token::Token;
 
-/// A white byte, a comment without its `#` and its newline, or a token.
+/// An element of a text: a whitespace byte, a comment without its `#` and its newline, or a token.
 #[derive(Clone, Copy)]
 pub(crate) enum Element<'a> {
     White(u8),
@@ -18,7 +18,7 @@ pub(crate) enum Element<'a> {
     Lexeme(Token<'a>),
 }
 
-/// The text before the ASCII byte at `at`, and the text after it.
+/// The part of a text before the ASCII byte at offset `at`, and the part after that byte.
 fn around(text: &str, at: usize) -> (&str, &str)
     requires within { at < length text.now }
     requires ascii { IsTrue (is_ascii (slice_index text.now at)) }
@@ -30,7 +30,7 @@ fn around(text: &str, at: usize) -> (&str, &str)
     (before, after)
 }
 
-/// A comment and the text after its newline; `rest` is the text after its `#`.
+/// A comment and the text after its newline, from the text after the comment's `#`.
 fn comment(rest: &str) -> Option<(Element<'_>, &str)>
     ensures { found_view result ≡ comment_from rest.now }
 {
@@ -39,7 +39,7 @@ fn comment(rest: &str) -> Option<(Element<'_>, &str)>
     Some((Element::Comment(text), after))
 }
 
-/// A string and the text after its closing quote; `rest` is the text after its opening quote.
+/// A string and the text after its closing quote, from the text after the string's opening quote.
 fn string(rest: &str) -> Option<(Element<'_>, &str)>
     ensures { found_view result ≡ string_from rest.now }
 {
@@ -48,7 +48,7 @@ fn string(rest: &str) -> Option<(Element<'_>, &str)>
     Some((Element::Lexeme(Token::Text(text)), after))
 }
 
-/// The word at the front of a text, and the text after it.
+/// The word at the front of a text, and the text after the word.
 fn word(rest: &str) -> (Element<'_>, &str)
     ensures element { element_view result.0 ≡ Lexeme (spec.Word (take (leading_word_bytes rest.now) rest.now)) }
     ensures after { result.1.now ≡ drop (leading_word_bytes rest.now) rest.now }
@@ -57,7 +57,7 @@ fn word(rest: &str) -> (Element<'_>, &str)
     (Element::Lexeme(Token::Word(word)), after)
 }
 
-/// The token for a byte that is a sign, such as a brace.
+/// The token for one of the signs `{ } [ ] = ,`, and `None` for any other byte.
 fn sign_of<'a>(byte: u8) -> Option<Token<'a>>
     ensures { option_map token_view result ≡ sign_of byte }
 {
@@ -72,7 +72,7 @@ fn sign_of<'a>(byte: u8) -> Option<Token<'a>>
     }
 }
 
-/// The element that begins with the byte `first`, which `rest` follows, and the text after the element.
+/// The element at the front of `text`, which is the byte `first` and then `rest`, and the text after the element.
 fn element_from<'a>(text: &'a str, first: u8, rest: &'a str) -> Option<(Element<'a>, &'a str)>
     requires { text.now ≡ first ∷ rest.now }
     ensures { found_view result ≡ element_from first rest.now }
@@ -93,7 +93,7 @@ fn element_from<'a>(text: &'a str, first: u8, rest: &'a str) -> Option<(Element<
     Some((Element::Lexeme(sign), rest))
 }
 
-/// The element at the front of a text, and the text after it. `None` at the end, and if no element begins here.
+/// The element at the front of a text, and the text after it; `None` if the text is empty or begins with no element.
 pub(crate) fn element_at(text: &str) -> Option<(Element<'_>, &str)>
     ensures { found_view result ≡ element_at text.now }
 {
@@ -109,7 +109,7 @@ pub(crate) fn element_at(text: &str) -> Option<(Element<'_>, &str)>
     element_from(text, first, rest)
 }
 
-/// The white byte at the front of a text, if there is one, and the text after it.
+/// The whitespace byte at the front of a text, if there is one, and the text after that byte.
 pub(crate) fn white_at(text: &str) -> Option<(u8, &str)>
     ensures { IfSome result (λ r. Some (spelling.White r.0, r.1.now) ≡ element_at text.now) }
 {

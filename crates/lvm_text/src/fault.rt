@@ -9,20 +9,20 @@ use thiserror::Error;
 /// Why a text is refused, and the line of the fault, counted from 1.
 #[derive(Clone, Copy, Debug, PartialEq, Eq, Error)]
 pub enum TextFault {
-    /// On this line begins something that is no token, no comment and no white space.
+    /// Something on this line is neither a token nor a comment nor whitespace.
     #[error("line {0}: no token")]
     Token(u64),
-    /// The tokens up to and including one on this line can't become a text. If only the end is missing, the line
-    /// is one more than the number of newlines.
+    /// A token on this line can't follow the tokens before it. If instead only the end of the text is missing, the
+    /// line is one more than the number of newlines.
     #[error("line {0}: wrong syntax")]
     Syntax(u64),
     /// A key on this line equals an earlier key of the same section.
     #[error("line {0}: a key for the second time")]
     KeyTwice(u64),
-    /// A brace on this line opens level 17; the top of the text is level 0.
+    /// A brace on this line opens nesting level 17; the top of the text is level 0.
     #[error("line {0}: sections too deep")]
     Deep(u64),
-    /// An integer on this line has more than 19 digits or is 2^63 or more.
+    /// An integer on this line has more than 19 digits, or is 2^63 or more.
     #[error("line {0}: an integer out of range")]
     Number(u64),
     /// Memory ran out: an allocation was refused.

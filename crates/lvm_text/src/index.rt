@@ -1,7 +1,7 @@
 //! Finds the position of a key among the entries of a section.
 //! The first few entries are compared one by one, and an index gives the positions of the others in about
-//! `log n` steps: metadata has mostly small sections, and an index for each would take most of the memory. What
-//! an index contains is `Finds` in `specs/Positions`; change that first.
+//! `log n` steps. Metadata has mostly small sections, and an index of all their keys would use most of the memory.
+//! `Finds` in `specs/Positions` defines what an index contains; change that definition first.
 
 ghost use Rattle.lvm_text.specs.Prelude.{None, [], OnOk, Finds, position_of};
 ghost use Rattle.std.specs.Prelude.{◌≡◌, ◌∷◌, ◌++◌};
@@ -10,10 +10,10 @@ use crate::tree::Entry;
 use std::alloc::AllocError;
 use std::collections::BTreeMap;
 
-/// How many entries at the front of a section are not in its index.
+/// How many entries at the front of a section are left out of the section's index.
 pub(crate) const FEW: usize = 8;
 
-/// The position of the first of these entries that has this key.
+/// The position of the first entry that has this key, or `None` if no entry has it.
 fn position_among(entries: &[Entry<'_>], key: &str) -> Option<usize>
     ensures { result ≡ position_of key.now 0 entries.now }
 {
@@ -25,7 +25,7 @@ fn position_among(entries: &[Entry<'_>], key: &str) -> Option<usize>
     None
 }
 
-/// The position of a key in a section, or `None` if the section doesn't have it.
+/// The position of a key in a section, or `None` if the section doesn't contain the key.
 pub(crate) fn position_of(
     entries: &[Entry<'_>],
     index: &BTreeMap<&str, usize>,

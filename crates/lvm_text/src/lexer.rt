@@ -1,5 +1,5 @@
 //! Cuts a text into tokens, element by element from front to end.
-//! White bytes and comments are dropped; their newlines are counted for the lines of the tokens.
+//! Whitespace and comments are dropped, but their newlines are counted, for the lines of the tokens.
 
 ghost use Rattle.lvm_text.specs.Prelude.{[], MatchResult, OnOk, Spells, SomeElement, newlines, spelling, put_token, IsTokenFault, views, element_view};
 ghost use Rattle.std.specs.Prelude.{◌≡◌, ◌++◌};
@@ -10,7 +10,7 @@ use crate::scan::is_end;
 use crate::token::TokenAtLine;
 use std::alloc::{AllocFailed, Global};
 
-/// How many newlines an element has.
+/// How many newlines an element contains.
 fn newlines(element: Element<'_>) -> u64
     requires { SomeElement (element_view element) }
     ensures { result ≡ newlines (spelling (element_view element.entry)) }
@@ -22,7 +22,7 @@ fn newlines(element: Element<'_>) -> u64
     }
 }
 
-/// Appends an element's token with its line; white bytes and comments have none.
+/// Appends the token of an element with its line; whitespace and comments have no token.
 fn keep<'a>(
     tokens: &mut Vec<TokenAtLine<'a>>,
     element: Element<'a>,
@@ -37,7 +37,7 @@ fn keep<'a>(
     }
 }
 
-/// The tokens of a text, or the line on which something begins that is no element.
+/// The tokens of a text, or a fault at the line on which something begins that isn't an element.
 pub(crate) fn tokens_of(alloc: Global, text: &str) -> Result<Vec<TokenAtLine<'_>>, TextFault>
     ensures { MatchResult result (λ v. Spells text.now (views v.items)) (IsTokenFault text.now) }
 {
@@ -51,7 +51,7 @@ pub(crate) fn tokens_of(alloc: Global, text: &str) -> Result<Vec<TokenAtLine<'_>
         keep(&mut tokens, element, line)?;
         line += newlines(element);
         rest = after;
-        // Most elements are white bytes, so a loop of their own skips them.
+        // Most elements are whitespace bytes, so a separate loop skips them.
         while let Some((byte, after)) = white_at(rest) {
             line += newlines(Element::White(byte));
             rest = after;

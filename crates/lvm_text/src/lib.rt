@@ -1,6 +1,6 @@
 //! Reads LVM2 configuration text, as vgcfgbackup(8) writes it (lvm.conf(5)).
 //! The entry point is `parse`, whose contract says which texts are accepted; the modules are the steps from bytes
-//! to a tree. To change the language of the texts, change `specs/` first.
+//! to a tree. To change the grammar of the texts, change `specs/` first.
 #![tactic(auto)]
 
 ghost use Rattle.lvm_text.specs.Prelude.{ℕ, List, Ok, Err, IfOk, IfErr, Tree, Describes, HasFault, Answers, TextFault, Memory};
@@ -31,18 +31,18 @@ pub use tree::{Node, Scalar, Section, Value};
 /// Reads a text as a tree, or returns its fault.
 ///
 /// The checks `Token`, `Syntax`, `Deep`, `Number` and `KeyTwice` run in this order, each over the whole text, and
-/// the first that finds a fault returns the first line where it does. `Memory` is returned only if an allocation
-/// was refused. Keys and strings are slices of the text; a string keeps its backslashes.
+/// the first that finds any fault reports its first line. `Memory` is returned only if an
+/// allocation was refused. Keys and strings are slices of the text; a string keeps its backslashes.
 ///
 /// Cost: each byte is read a bounded number of times; a key costs at most 8 comparisons with the first keys of
-/// its section and about `log n` with the `n` others. Source of the language: lvm.conf(5),
+/// its section and about `log n` comparisons with the `n` others. The grammar is that of lvm.conf(5) and
 /// vgcfgbackup(8).
 pub fn parse(alloc: Global, text: &str) -> Result<Section<'_>, TextFault>
-    // An accepted text describes the tree returned; a text that describes a tree is accepted unless memory runs out.
+    // An accepted text describes the tree returned; each text that describes a tree is accepted unless memory runs out.
     ensures accepted { IfOk result (Describes text.now) }
     ensures only { (t : Tree) → Describes text.now t → Answers result (Ok t) }
 
-    // A refused text has the fault returned; a text that has a fault is refused for it unless memory runs out.
+    // A refused text has the fault returned; each text that has a fault is refused for it unless memory runs out.
     ensures fault { IfErr result (λ f. f ≢ Memory → HasFault text.now f) }
     ensures only_fault { (f : TextFault) → HasFault text.now f → Answers result (Err f) }
 {

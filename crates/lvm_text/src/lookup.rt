@@ -1,5 +1,5 @@
-//! Lookups in a section: its line, the node of a key, and the inner sections.
-//! A key is found by its position in `index`; inner sections are found by iterating over the entries.
+//! Lookups in a section: the section's line, the node of a key, and the inner sections.
+//! A key is found through `index::position_of`; inner sections are found by iterating over the entries.
 
 ghost use Rattle.lvm_text.specs.Prelude.{option_map};
 ghost use Rattle.std.specs.Prelude.{◌≡◌};
@@ -21,9 +21,9 @@ impl<'a> Section<'a> {
         self.line
     }
 
-    /// The node of a key, or `None` if the section doesn't have the key.
+    /// The node of a key, or `None` if the section doesn't contain the key.
     ///
-    /// Cost: at most 8 comparisons with the first keys, and about `log n` with the `n` others.
+    /// Cost: at most 8 comparisons with the first keys, and about `log n` comparisons with the `n` others.
     pub fn get(&self, key: &str) -> Option<&Node<'a>>
         ensures { option_map (λ n. node_view n.now) result ≡ node_of key.now self.now.values }
     {
@@ -31,12 +31,12 @@ impl<'a> Section<'a> {
         Some(&self.entries[at].node)
     }
 
-    /// The keys that hold sections, each with its section, in source order. Each step passes over the keys up to
-    /// the next section.
+    /// An iterator over the keys that hold sections, each with its section, in source order. Each step skips the
+    /// keys before the next section.
     pub fn sections(&self) -> Sections<'_, 'a>
         ensures sections { sections_left result ≡ sections_of self.now.values }
-        // The keys of a section all differ, so the section that comes with a key is the one that `get`
-        // finds for it.
+        // The keys of a section all differ, so the section that the iterator returns with a key is the one that
+        // `get` finds for that key.
         ensures differ { AllPairs (λ j k. j ≢ k) (keys_of self.now.values) }
         ensures found { All (IsFound self.now.values) (sections_of self.now.values) }
     {

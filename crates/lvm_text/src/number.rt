@@ -1,5 +1,5 @@
 //! Reads the integers of a text.
-//! Leading zeros are allowed. The limit of 19 digits keeps the value within a `u64`; it then has to be below 2^63.
+//! Leading zeros are allowed. An integer has at most 19 digits, so that it fits a `u64`, and must be below 2^63.
 //! To allow a sign or a decimal point, change `scalar_of` in `specs/Grammar`.
 
 ghost use Rattle.lvm_text.specs.Prelude.{length, IsTrue, digits_value, are_digits, number_of};
@@ -12,7 +12,7 @@ pub(crate) fn are_digits(word: &[u8]) -> bool
     word.iter().all(|byte| byte.is_ascii_digit())
 }
 
-/// The value of at most 19 digits, which fits a `u64`.
+/// The value of at most 19 digits; a value of so few digits fits a `u64`.
 fn value_of(word: &[u8]) -> u64
     requires digits { IsTrue (are_digits word.now) }
     requires short { length word.now ≤ 19 }

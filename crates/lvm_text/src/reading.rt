@@ -1,6 +1,6 @@
 //! Reads a whole text: tokens, then their checks, then the tree.
-//! Each check runs over the whole text before the next begins, because the order of the checks, not of the lines,
-//! decides which fault is returned. A new check belongs between two of these.
+//! Each check runs over the whole text before the next check begins, because the order of the checks, not of the
+//! lines, decides which fault is returned. A new check needs a place in this order.
 
 ghost use Rattle.lvm_text.specs.Prelude.{Ok, Err, IfOk, IfErr, Values, newlines, IsText, views, Describes, HasFault, TreeOf, Memory};
 ghost use Rattle.std.specs.Prelude.{◌≡◌, ◌≢◌, ◌+◌};
@@ -27,7 +27,7 @@ pub fn end_line(bytes: &[u8]) -> u64
     line
 }
 
-/// The tree of tokens that are a text by the grammar, or the fault of the first check that finds one.
+/// The tree of tokens that form, by the grammar, a text, or the fault of the first check that finds any.
 fn tree_of<'a>(alloc: Global, tokens: &[TokenAtLine<'a>]) -> Result<Section<'a>, TextFault>
     ensures { (v : Values) → IsText (views tokens.now) v → TreeOf (views tokens.now) v result }
 {

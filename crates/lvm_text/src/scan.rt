@@ -1,13 +1,13 @@
 //! Finds where a comment, a word or a string in a text ends.
-//! Each byte is read once, since a text may be one long word. A new kind of token needs a function here that finds
-//! its length.
+//! Each byte is read only once, because a text may be one long word. A new kind of token needs a function in this
+//! module that finds its length.
 
 ghost use Rattle.lvm_text.specs.Prelude.{None, is_none, is_white, is_word_byte, is_end, newline_at, leading_word_bytes, raw_length, is_escape};
 ghost use Rattle.std.specs.Prelude.{◌≡◌};
 
 use memchr::{memchr, memchr3};
 
-/// Whether a byte is a space, a tab or a newline.
+/// Whether a byte is whitespace: a space, a tab or a newline.
 pub(crate) fn is_white(byte: u8) -> bool
     ensures { result ≡ is_white byte }
 {
@@ -28,7 +28,7 @@ pub(crate) fn newline_at(bytes: &[u8]) -> Option<usize>
     memchr(b'\n', bytes)
 }
 
-/// How many bytes at the front may occur in a word.
+/// How many bytes at the front of a text may occur in a word.
 pub(crate) fn leading_word_bytes(bytes: &[u8]) -> usize
     ensures { result ≡ leading_word_bytes bytes.now }
 {
@@ -50,7 +50,7 @@ fn is_escape(bytes: &[u8]) -> bool
     }
 }
 
-/// How many bytes of a string come before its closing quote; `None` if it isn't closed or has a bad byte.
+/// How many bytes come before the closing quote of a string; `None` if no quote closes it, or a bad byte comes first.
 pub(crate) fn raw_length(bytes: &[u8]) -> Option<usize>
     ensures { result ≡ raw_length bytes.now }
 {
@@ -68,7 +68,7 @@ pub(crate) fn raw_length(bytes: &[u8]) -> Option<usize>
     None
 }
 
-/// Whether the bytes are empty, or a comment without a newline, as the end of a text may have.
+/// Whether the bytes may follow the last element of a text: there are none, or they are a comment without a newline.
 pub(crate) fn is_end(bytes: &[u8]) -> bool
     ensures { result ≡ is_end bytes.now }
 {

@@ -1,6 +1,6 @@
 //! Checks the syntax of a text with a state machine over its tokens.
-//! Depth isn't limited by this check, so it counts open sections instead of keeping a stack. A new form of value
-//! needs a new stage and its transitions; the proof then asks how a text can continue from that stage.
+//! The check doesn't limit depth, and counts open sections instead of keeping a stack. A new form of value needs a new
+//! stage and its transitions; the proof then has to show how a text can continue from that stage.
 
 ghost use Rattle.lvm_text.specs.Prelude.{Some, is_some, MatchOption, scalar_of, is_key, IsSyntaxLine, stage_after, run, is_over, newlines, token_view, views, Key};
 ghost use Rattle.std.specs.Prelude.{◌≡◌, ◌<◌, ◌+◌, ◌^◌};
@@ -9,7 +9,7 @@ use crate::number::are_digits;
 use crate::reading::end_line;
 use crate::token::{Token, TokenAtLine};
 
-/// How far a value has been read, or that a new one may begin.
+/// What has been read of the current value, or that a new key may begin.
 #[derive(Clone, Copy, PartialEq, Eq)]
 enum Stage {
     /// A key or a closing brace may come.
@@ -26,7 +26,7 @@ enum Stage {
     After,
 }
 
-/// Whether a word may be a key: it isn't empty, and doesn't begin with a hyphen.
+/// Whether a word may be a key: it is nonempty and doesn't begin with a hyphen.
 fn is_key(word: &str) -> bool
     ensures { result ≡ is_key word.now }
 {
@@ -45,7 +45,7 @@ fn is_scalar(token: Token<'_>) -> bool
     }
 }
 
-/// How many sections are open, and the stage, after a token; `None` if the token may not come here.
+/// How many sections are open, and the stage, after a token; `None` if the token isn't allowed at this stage.
 fn stage_after(depth: u64, stage: Stage, token: Token<'_>) -> Option<(u64, Stage)>
     requires { depth < 2 ^ 63 }
     ensures { result ≡ stage_after depth stage (token_view token.entry) }
@@ -64,7 +64,7 @@ fn stage_after(depth: u64, stage: Stage, token: Token<'_>) -> Option<(u64, Stage
     }
 }
 
-/// Whether a text may end here: no section is open and no value is unfinished.
+/// Whether a text may end in this state: no section is open and no value is unfinished.
 fn is_over(depth: u64, stage: Stage) -> bool
     ensures { result ≡ is_over depth stage }
 {
@@ -74,8 +74,8 @@ fn is_over(depth: u64, stage: Stage) -> bool
     }
 }
 
-/// The line of a text's syntax fault, if it has one: the line of the first token that may not come where it does, or
-/// the last line if the text is only incomplete.
+/// The line of a text's syntax fault, if there is one: the line of the first token that can't follow the tokens before
+/// it, or the last line if the text is only incomplete.
 pub(crate) fn syntax_line(tokens: &[TokenAtLine<'_>], text: &str) -> Option<u64>
     ensures { MatchOption result (run 0 Key (views tokens.now) ≡ Some (0, Key))
         (IsSyntaxLine (views tokens.now) (1 + newlines text.now)) }

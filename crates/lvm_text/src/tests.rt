@@ -1,6 +1,6 @@
-//! Expected results from outside the proofs: a small volume group, a text in the style of a real backup, and odd
-//! bytes. Each public call is made here with enough memory. A new case is a row of `HELD`: what a text contains,
-//! or why it is refused. Large and deep texts are tested on the built program (`tests/outside`).
+//! Tests whose expected results don't come from the proofs: a small volume group, a text in the style of a real
+//! backup, and odd bytes. Each public call is tested with enough memory. A new case is a row of `HELD`: what a text
+//! contains, or why it is refused. Large and deep texts are tested on the built program (`tests/outside`).
 
 use crate::{Node, Section, TextFault, Value, parse};
 use std::alloc::{AllocError, Global};
@@ -69,12 +69,12 @@ const BACKUP: &str =
     }\n\
     # the end, without a newline";
 
-/// Ten keys, so that the last two are in the index, the tenth of them a section.
+/// A text with ten keys, so that the last two are in the section's index; the tenth key holds a section.
 const TEN: &str = "a = 1 b = 2 c = 3 d = 4 e = 5 f = 6 g = 7 h = 8 i = 9 j { h = 11 }";
 
 const MANY_LETTERS: &str = "1 = 2 0 { } a-b.c+d_e = [1, \"x\"]# end";
 
-/// A text, a path of keys in it, and what is there, or why the text is refused.
+/// A text, a path of keys, and what the text contains at that path, or why the text is refused.
 static HELD: [(&str, &str, &str); 70] = [
     ("", "", "1:"),
     ("a = 1 b { c = \"x\" }", "", "1: b 1"),
@@ -179,7 +179,7 @@ static HELD: [(&str, &str, &str); 70] = [
     ("{\n\"\\n\"", "", "Token(2)"),
     ("{ # x", "", "Syntax(1)"),
     ("a = 1 # x", "", "1:"),
-    // White bytes before, between and after tokens.
+    // Texts with whitespace before, between and after tokens.
     (" \n\t\n ", "", "1:"),
     (" \t\n\n a\t = \n\t 1 \n\n", "a", "3: 1"),
     ("\t\n#x\n \n?", "", "Token(4)"),
@@ -187,7 +187,7 @@ static HELD: [(&str, &str, &str); 70] = [
     ("a\n \x0b", "", "Token(2)"),
 ];
 
-/// The node at a path of keys, which are separated by spaces and lead from section to inner section.
+/// The node at a path of keys, which spaces separate and which lead from a section to an inner section.
 fn find<'s, 'a>(top: &'s Section<'a>, path: &str) -> Option<&'s Node<'a>> {
     let mut section = Some(top);
     let mut found = None;

@@ -1,5 +1,5 @@
 //! The tokens of a text, each with the line on which it begins.
-//! A new kind of token is a variant here and a case in `element_at`.
+//! A new kind of token needs a variant of `Token` and a case in `element_from`.
 
 /// A token of a text: a word, the raw text of a string, or a sign.
 #[derive(Clone, Copy)]
@@ -14,7 +14,7 @@ pub(crate) enum Token<'a> {
     Comma,
 }
 
-/// A token, and the line on which it begins.
+/// A token and the line on which the token begins.
 #[derive(Clone, Copy)]
 pub(crate) struct TokenAtLine<'a> {
     pub(crate) token: Token<'a>,

@@ -1,13 +1,13 @@
 //! The tree of a text: sections of keys, and what each key holds, as slices of the text.
-//! A section has its entries in source order, and an index of their keys; contracts see only its line and its
-//! values. The invariant of sections is `IsSection` in `specs/Sound`: change that first.
+//! A section has entries in source order, and an index of their keys; contracts see only the section's line and
+//! values. `IsSection` in `specs/Sound` is the invariant of sections: change it first.
 
 ghost use Rattle.std.specs.Prelude.{◌≡◌};
 
 use std::collections::BTreeMap;
 use std::marker::Model;
 
-/// An integer, or the raw text of a string.
+/// A scalar: an integer, or the raw text of a string.
 #[derive(Debug, Drop)]
 pub enum Scalar<'a> {
     Int(u64),

@@ -2,7 +2,7 @@
 use Rattle.dm_table.specs.Base.{ℕ, List, length, take}
 use Rattle.std.specs.Prelude.{◌≡◌, ◌+◌, ◌++◌}
 
--- a text was copied into a block at offset `at`: `end` is the offset after it, and the block's first `end` bytes are known
+-- a text was copied into a block at offset `at`; `end` is the offset after the text, and the bytes before `at` are unchanged
 pub record IsPut (text : List ℕ) (at : ℕ) (old new : List ℕ) (end : ℕ) : Type 0 where
   pub ends : end ≡ at + length text
   pub holds : take end new ≡ take at old ++ text

@@ -3,7 +3,7 @@ use Rattle.dm_table.specs.Base.{ℕ, List, Bool, true, nat_lt}
 use Rattle.dm_table.specs.io.DeviceIo.{OutputPast}
 use Rattle.std.specs.Prelude.{◌≡◌, ◌≤◌, ◌++◌, ◌||◌}
 
--- the history of the output behind, the bytes in the buffer, whether the output behind failed, and the gathering output's own counts
+-- a gathering output: the history of the output behind it, the bytes in its buffer, whether the output behind it has failed, and its own fault and flush counts
 pub record Gathering : Type 0 where
   pub behind : OutputPast
   pub held : List ℕ
@@ -11,7 +11,7 @@ pub record Gathering : Type 0 where
   pub faults : ℕ
   pub flushes : ℕ
 
--- the history of a gathering output: bytes in its buffer count as accepted and as not flushed yet
+-- the history of a gathering output, in which the bytes in its buffer count as accepted but not yet flushed
 abbrev pub past_of : Gathering → OutputPast
 past_of g = record {
   written = g.behind.written ++ g.held;
@@ -20,7 +20,7 @@ past_of g = record {
   flushes = g.flushes;
 }
 
--- a fault of the output behind sets `broken` for good, and a broken gathering output no longer calls the output behind
+-- a fault of the output behind a gathering output sets `broken` for good, and once `broken` is set, the output behind isn't called any more
 pub record MindsFaults (old new : Gathering) : Type 0 where
   pub grows : old.behind.faults ≤ new.behind.faults
   pub broken : new.broken ≡ (old.broken || nat_lt old.behind.faults new.behind.faults)

@@ -1,8 +1,8 @@
--- The states of the in-memory input and output for tests, and what each of their calls does.
+-- The states of the in-memory input and output that tests use, and what each call does to a state.
 use Rattle.dm_table.specs.Prelude.{ℕ, List, [], length, min, Bool, true, false, Result, IsErr, IfOk, InputPast, OutputPast, given}
 use Rattle.std.specs.Prelude.{◌≡◌, ◌↔◌, ◌+◌, ◌++◌, ◌<◌}
 
--- an in-memory input: its history, the bytes still unread, the most bytes per read, and whether reads fail once no bytes are left
+-- the state of an in-memory input: its history, its unread bytes, the most bytes per read, and whether reads fail once no bytes are left
 pub record Supply : Type 0 where
   pub past : InputPast
   pub left : List ℕ
@@ -14,7 +14,7 @@ abbrev pub fresh_supply : List ℕ → ℕ → Bool → Supply
 fresh_supply bytes step fails =
     record { past = record { handed = []; faults = 0; ends = 0 }; left = bytes; step = step; fails = fails }
 
--- an in-memory output: its history, the bytes it still has room for, the most bytes per write, and whether flushes fail
+-- the state of an in-memory output: its history, how many more bytes it has room for, the most bytes per write, and whether flushes fail
 pub record Intake : Type 0 where
   pub past : OutputPast
   pub room : ℕ
@@ -26,12 +26,12 @@ abbrev pub fresh_intake : (step room : ℕ) → Bool → Intake
 fresh_intake step room flush_fails =
     record { past = record { written = []; waiting = []; faults = 0; flushes = 0 }; room = room; step = step; flush_fails = flush_fails }
 
--- how many bytes one call moves: the least of the step, the bytes offered, and the room for them
+-- how many bytes one call moves: the least of `step` (the most bytes per call), the bytes offered, and the room for them
 abbrev pub portion : (step offered room : ℕ) → ℕ
 portion step offered room = min step (min offered room)
 
--- a read of an in-memory input: it fails exactly if no bytes are left and `fails` is set, else it hands out the next portion;
--- it returns 0 for a nonempty buffer only if no bytes are left and `fails` is not set
+-- a read of an in-memory input: it fails exactly if no bytes are left and `fails` is set, else it hands out the next portion, and
+-- it returns 0 for a nonempty buffer only if no bytes are left and `fails` isn't set
 pub record HandsOut {E : Type 0} (old new : Supply) (result : Result ℕ E) (buffer : List ℕ) : Type 0 where
   pub fault : IsErr result ↔ ((old.fails ≡ true) × (old.left ≡ []))
   pub count : IfOk result (λ n. n ≡ portion old.step (length old.left) (length buffer))

@@ -1,4 +1,4 @@
--- Prefixes of a text, as a write that stops early leaves them.
+-- Prefixes of a text: the part that has been written when a write stops early.
 use Rattle.dm_table.specs.Base.{List, ℕ}
 use Rattle.std.specs.Prelude.{◌≡◌, ◌++◌, ◌∷◌}
 

@@ -1,4 +1,4 @@
--- A byte test that implies a property implies it for all bytes of a text; and names are ASCII.
+-- Laws about texts whose bytes all pass a test: if the test implies a property, every byte has it; and names are ASCII.
 use Rattle.dm_table.specs.Base.{ℕ, Bool, true, nat_le, not, List, [], length, All, IsTrue, list_all, AllByRecursion, IsAscii, arith}
 use Rattle.std.proofs.lemmas.Bool.{and_parts}
 use Rattle.std.proofs.lemmas.Bool.Decides.{nat_tests}
@@ -13,7 +13,7 @@ each : (test : ℕ → Bool) (Q : ℕ → Type 0) → ((b : ℕ) → test b ≡ 
 each test Q says [] h = tt
 each test Q says (b ∷ text) h = let a = and_parts (test b) (list_all test text) h in (says b a.0, each test Q says text a.1)
 
--- if every byte that passes the test has property Q, every byte of a text that passes it has Q
+-- if each byte that passes a test has property Q, then all bytes of a text have Q if they all pass the test
 pub All-list_all : (test : ℕ → Bool) (Q : ℕ → Type 0) → ((b : ℕ) → test b ≡ true → Q b) → (text : List ℕ) → list_all test text ≡ true → All Q text
 All-list_all test Q says text h = All-from_recursion Q text (each test Q says text h)
 

@@ -5,11 +5,11 @@ use Rattle.dm_table.specs.io.DeviceIo.{InputPast, OutputPast, since}
 use Rattle.dm_table.specs.io.Progress.{HasWritten, HasWrittenTo, IsClosedAfter, IsFinished}
 use Rattle.std.specs.Prelude.{◌≡◌, ◌+◌, ◌∷◌, ◌++◌}
 
--- the new part of a list that had `more` appended is `more`
+-- if `more` is appended to a list, the new part of the list is `more`
 pub since_is : (old new more : List ℕ) → new ≡ old ++ more → since old new ≡ more
 since_is old new more e = ap (drop (length old)) e ∙ drop-append_seam old more
 
--- the new part of a list that grew twice is both new parts, one after the other
+-- if a list grew twice, its new part is the first new part followed by the second
 pub since_more : (old mid new : List ℕ) → mid ≡ old ++ since old mid → new ≡ mid ++ since mid new → since old new ≡ since old mid ++ since mid new
 since_more old mid new e f =
     since_is old new (since old mid ++ since mid new) (f ∙ ap (λ xs. xs ++ since mid new) e ∙ append_assoc old (since old mid) (since mid new))
@@ -19,7 +19,7 @@ pub grows_more : (old mid new : List ℕ) → mid ≡ old ++ since old mid → n
 grows_more old mid new e f =
     f ∙ ap (λ xs. xs ++ since mid new) e ∙ append_assoc old (since old mid) (since mid new) ∙ ap (λ xs. old ++ xs) (sym (since_more old mid new e f))
 
--- a list that did not change has no new part
+-- the new part of an unchanged list is empty
 pub since-same : (xs : List ℕ) → since xs xs ≡ []
 since-same [] = refl
 since-same (x ∷ xs) = since-same xs
@@ -54,12 +54,12 @@ written_none x = record {
   unflushed = refl;
 }
 
--- if the unflushed bytes grew in two steps by what was written, they grew in sum by all that was written
+-- if each of two steps adds to the unflushed bytes what it writes, both together add all that was written
 waits_more : (w0 w1 w2 v0 v1 v2 : List ℕ) → w1 ≡ w0 ++ since w0 w1 → w2 ≡ w1 ++ since w1 w2 → v1 ≡ v0 ++ since w0 w1 → v2 ≡ v1 ++ since w1 w2 → v2 ≡ v0 ++ since w0 w2
 waits_more w0 w1 w2 v0 v1 v2 e f g h =
     h ∙ ap (λ (xs : List ℕ). xs ++ since w1 w2) g ∙ append_assoc v0 (since w0 w1) (since w1 w2) ∙ ap (λ (xs : List ℕ). v0 ++ xs) (sym (since_more w0 w1 w2 e f))
 
--- writing without a fault, and then with `failed` failed writes, is writing with `failed` failed writes
+-- a step without a fault followed by a step with `failed` failed writes is, taken together, a step with `failed` failed writes
 pub written_more : (a b c : OutputPast) (failed : ℕ) → HasWritten a b 0 → HasWritten b c failed → HasWritten a c failed
 written_more a b c failed first second = record {
   appends = grows_more a.written b.written c.written first.appends second.appends;
@@ -81,7 +81,7 @@ written_to_more past a b c failed first second = record {
 
 -- ---- outputs that are finished
 
--- in IsFinished, the statement that says the output failed may be replaced by an equivalent one
+-- in IsFinished, the condition under which a write or flush failed may be replaced by an equivalent one
 pub finished_as : {old new : OutputPast} (P Q : Type 0) → (P → Q) → (Q → P) → IsFinished old new P → IsFinished old new Q
 finished_as P Q there back finished = record {
   appends = finished.appends;

@@ -32,7 +32,7 @@ kind_word kinds.Extents = codes "extents"
 kind_word kinds.Limit = codes "limit"
 kind_word kinds.Memory = codes "memory"
 
--- a message about a part as a whole, without a line number
+-- the message for a fault of a part as a whole, without a line number
 abbrev pub part_message : Part → LoadKind → List ℕ
 part_message part kind = codes "dmremap: " ++ part_word part ++ codes ": " ++ kind_word kind ++ codes "\n"
 

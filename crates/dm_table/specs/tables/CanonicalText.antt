@@ -1,4 +1,4 @@
--- The text that is written for devices, in table text and in the concise form (dmsetup(8)).
+-- The texts that are written for devices: table text, and the concise form of dmsetup(8).
 use Rattle.dm_table.specs.Base.{ℕ, suc, Bool, false, length, List, [], map, codes, flat_map, join_with_byte, Place, Source}
 use Rattle.dm_table.specs.declared.tables.table.Line.{Line}
 use Rattle.dm_table.specs.declared.tables.table.DeviceSpec.{DeviceSpec}
@@ -8,15 +8,15 @@ use Rattle.dm_table.specs.tables.ConciseText.{place_of}
 use Rattle.dm_table.specs.words.Bytes.{code}
 use Rattle.std.specs.Prelude.{◌≡◌, ◌∷◌, ◌++◌, if◌then◌else◌, ◌+◌}
 
--- a device's lines in table text, each with the device's name and a newline
+-- table text for the lines of one device: each line has the device's name in front and a newline at the end
 abbrev pub lines_text : List ℕ → List Line → List ℕ
 lines_text name lines = flat_map (λ line. line_text (record { name = name; line = line }) ++ code "\n" ∷ []) lines
 
--- table text for devices: one line of text for each line of each device, in order
+-- table text for devices: a text line for each line of each device, in order
 abbrev pub table_text : List DeviceSpec → List ℕ
 table_text devices = flat_map (λ device. lines_text device.name device.lines) devices
 
--- the entries between a device's name and its lines in the concise form: no uuid, no minor number, and ro or rw
+-- the text between a device's name and its lines in the concise form: an empty uuid, an empty minor number, and ro or rw
 abbrev pub flag_text : Bool → List ℕ
 flag_text ro = if ro then codes ",,,ro," else codes ",,,rw,"
 
@@ -30,12 +30,12 @@ concise_text devices = join_with_byte (code ";") (map concise_device devices) ++
 
 -- ---- which devices table text can describe
 
--- lines with their places set to their numbers in the source, counted from n
+-- the lines, with consecutive numbers from n on as their places in the source
 abbrev pub placed_lines : ℕ → List Line → List Line
 placed_lines n [] = []
 placed_lines n (line ∷ lines) = record line { at = record { part = Source; number = n } } ∷ placed_lines (suc n) lines
 
--- devices as table text can describe them: writable, with lines numbered from n; a device's place is that of its first line
+-- the devices as table text can describe them: all are writable, the places of the lines are numbered from n, and a device has the place of its first line
 abbrev pub as_table : ℕ → List DeviceSpec → List DeviceSpec
 as_table n [] = []
 as_table n (device ∷ devices) =
@@ -44,17 +44,17 @@ as_table n (device ∷ devices) =
 
 -- ---- which devices the concise form can describe
 
--- lines with their places set to `at`
+-- the lines, with `at` as the place of each
 abbrev pub lines_at : Place → List Line → List Line
 lines_at at [] = []
 lines_at at (line ∷ lines) = record line { at = at } ∷ lines_at at lines
 
--- devices as the concise form can describe them: a device and all of its lines have the device's number as place, counted from n
+-- the devices as the concise form can describe them: the place of a device, and of all its lines, is the device's number, counted from n
 abbrev pub as_concise : ℕ → List DeviceSpec → List DeviceSpec
 as_concise n [] = []
 as_concise n (device ∷ devices) =
     record { name = device.name; ro = device.ro; lines = lines_at (place_of n) device.lines; at = place_of n } ∷ as_concise (suc n) devices
 
--- if some text describes devices that are the same as far as the form can say, then the text written for them describes them too
+-- if any text describes the devices, apart from what the form can't express, then the text that is written for them describes them too
 abbrev pub ReadsBack : (describes : List ℕ → List DeviceSpec → Type 0) (sayable : List DeviceSpec → List DeviceSpec) (text_of : List DeviceSpec → List ℕ) (devices : List DeviceSpec) → Type 0
 ReadsBack describes sayable text_of devices = (text : List ℕ) (said : List DeviceSpec) → describes text said → sayable said ≡ sayable devices → describes (text_of devices) (sayable devices)

@@ -1,4 +1,4 @@
--- The concise form (dmsetup(8)): devices separated by semicolons, each NAME,UUID,MINOR,FLAGS and its lines, separated by commas. The first four label the lines.
+-- The concise form (dmsetup(8)): devices separated by semicolons, each NAME,UUID,MINOR,FLAGS and its lines, separated by commas. The first four entries are the device's label.
 use Rattle.dm_table.specs.Base.{ℕ, Bool, true, false, not, List, [], length, drop, nat_le, nat_eq, codes, is_some, list_all, join_with_byte, pointwise, Place, Source, LoadFault}
 use Rattle.dm_table.specs.declared.tables.table.Line.{Line}
 use Rattle.dm_table.specs.declared.tables.table.DeviceSpec.{DeviceSpec}
@@ -13,42 +13,42 @@ use Rattle.std.specs.Prelude.{◌≡◌, ◌⊎◌, ◌≤◌, ◌==◌, ◌&&�
 
 -- ---- the label of a device: its first four entries
 
--- the uuid is empty, or up to 128 bytes that a device's name may contain
+-- the entry is a valid uuid: at most 128 bytes, possibly none, that a device's name may contain
 abbrev pub is_uuid : List ℕ → Bool
 is_uuid text = nat_le (length text) 128 && list_all is_device_byte text
 
--- the minor number is empty, or a number
+-- the entry is a valid minor number: empty, or a number
 abbrev pub is_minor : List ℕ → Bool
 is_minor text = length text == 0 || is_some (number_of text)
 
--- the flag ro, which says that the device is read-only
+-- the entry is the flag ro, which makes the device read-only
 abbrev pub is_ro : List ℕ → Bool
 is_ro text = pointwise nat_eq text (codes "ro")
 
--- the flags are empty, which means rw, or ro or rw
+-- the entry is a valid flag: ro, rw, or empty, which means rw
 abbrev pub is_flags : List ℕ → Bool
 is_flags text = length text == 0 || (is_ro text || pointwise nat_eq text (codes "rw"))
 
 -- ---- which devices a text in the concise form describes
 
--- the place of device number n, and of each of its lines
+-- the place of device number n of a text, and of each of the device's lines
 abbrev pub place_of : ℕ → Place
 place_of n = record { part = Source; number = n }
 
--- the text is the body of this line; one space before it and one after it have no meaning
+-- the text is the body of this line, with at most one space before the body and at most one after it
 abbrev pub WritesBody : List ℕ → Line → Type 0
 WritesBody text line =
     ((text ≡ body_text line) ⊎ (text ≡ body_text line ++ code " " ∷ []))
     ⊎ ((text ≡ code " " ∷ body_text line) ⊎ (text ≡ code " " ∷ body_text line ++ code " " ∷ []))
 
--- the texts are these lines, one each; all lines have the place of device number n
+-- each text is the valid body of the line at the same position, and all lines have the place of device number n
 abbrev pub SaysLines : ℕ → List (List ℕ) → List Line → Type 0
 SaysLines n [] [] = Unit {0}
 SaysLines n [] (line ∷ lines) = ⊥
 SaysLines n (text ∷ texts) [] = ⊥
 SaysLines n (text ∷ texts) (line ∷ lines) = WritesBody text line × IsBody line × (line.at ≡ place_of n) × SaysLines n texts lines
 
--- the text is this device, as device number n
+-- the text describes this device, as device number n
 pub record SaysDevice (n : ℕ) (text : List ℕ) (device : DeviceSpec) : Type 0 where
   pub uuid : List ℕ
   pub minor : List ℕ
@@ -64,7 +64,7 @@ pub record SaysDevice (n : ℕ) (text : List ℕ) (device : DeviceSpec) : Type 0
   pub said : SaysLines n bodies device.lines
   pub at : device.at ≡ place_of n
 
--- the text is these devices; one newline at its end has no meaning
+-- the text describes these devices in the concise form; the text may end with a newline
 pub record DescribesConcise (text : List ℕ) (devices : List DeviceSpec) : Type 0 where
   pub parts : List (List ℕ)
   pub spelled : (text ≡ join_with_byte (code ";") parts) ⊎ (text ≡ join_with_byte (code ";") parts ++ code "\n" ∷ [])
@@ -76,11 +76,11 @@ pub record DescribesConcise (text : List ℕ) (devices : List DeviceSpec) : Type
 abbrev pub lacks : ℕ → List ℕ → Bool
 lacks c text = list_all (λ b. not (b == c)) text
 
--- a text without the newline at its end, if it has one
+-- the text without the newline at its end, or the text itself if it doesn't end with a newline
 abbrev pub without_newline : List ℕ → List ℕ
 without_newline text = if last_or 0 text == code "\n" then all_but_last text else text
 
--- the parts of a text between semicolons; an empty text has none
+-- the parts of a text between semicolons; an empty text has no parts
 abbrev pub parts_of : List ℕ → List (List ℕ)
 parts_of [] = []
 parts_of (byte ∷ bytes) = parts_at (code ";") (byte ∷ bytes)
@@ -89,51 +89,51 @@ parts_of (byte ∷ bytes) = parts_at (code ";") (byte ∷ bytes)
 abbrev pub devices_of : List ℕ → List (List ℕ)
 devices_of text = parts_of (without_newline text)
 
--- the entries in a device's text: what is between its commas
+-- the entries in a device's text, which commas separate
 abbrev pub entries : List ℕ → List (List ℕ)
 entries = parts_at (code ",")
 
--- fields without an empty first one, which a space at the front leaves
+-- the fields without the empty first field that comes from a space at the front of a text
 abbrev pub without_first_space : List (List ℕ) → List (List ℕ)
 without_first_space ([] ∷ fields) = fields
 without_first_space fields = fields
 
--- the fields of a body, without the empty fields that a space before or after it leaves
+-- the fields of a body, without the empty fields that come from a space before or after the body
 abbrev pub body_fields : List ℕ → List (List ℕ)
 body_fields text = without_first_space (row_fields text)
 
--- four entries without spaces, and at least one more entry
+-- the entries begin with a label: the first four contain no space, and at least one more entry follows
 abbrev pub is_label : List (List ℕ) → Bool
 is_label (name ∷ uuid ∷ minor ∷ flags ∷ body ∷ bodies) = lacks (code " ") name && (lacks (code " ") uuid && (lacks (code " ") minor && lacks (code " ") flags))
 is_label _ = false
 
--- the minor number and the flags in the label are valid
+-- the minor number and the flags among a device's entries are valid
 abbrev pub has_label_values : List (List ℕ) → Bool
 has_label_values (name ∷ uuid ∷ minor ∷ flags ∷ bodies) = is_minor minor && is_flags flags
 has_label_values _ = false
 
--- the name and the uuid in the label are valid
+-- the name and the uuid among a device's entries are valid
 abbrev pub has_label_names : List (List ℕ) → Bool
 has_label_names (name ∷ uuid ∷ bodies) = is_device_name name && is_uuid uuid
 has_label_names _ = false
 
--- the entries after the label, which are the bodies of the device's lines
+-- the bodies of the lines in a device's text, which are the entries after the first four
 abbrev pub bodies_of : List ℕ → List (List ℕ)
 bodies_of text = drop 4 (entries text)
 
--- a device on one line, with a label, whose bodies all have the fields of a body
+-- the text of a device has the right form: it contains no newline, begins with a label, and each body has at least three nonempty fields
 abbrev pub is_device : List ℕ → Bool
 is_device text = (lacks (code "\n") text && is_label (entries text)) && list_all (λ body. is_body_row (body_fields body)) (bodies_of text)
 
--- all values in the device's text are valid
+-- all values in a device's text are valid
 abbrev pub has_values : List ℕ → Bool
 has_values text = has_label_values (entries text) && list_all (λ body. is_body (body_fields body)) (bodies_of text)
 
--- all names in the device's text are valid
+-- all names in a device's text are valid
 abbrev pub has_names : List ℕ → Bool
 has_names text = has_label_names (entries text) && list_all (λ body. has_body_names (body_fields body)) (bodies_of text)
 
--- the checks of a text in the concise form, in order
+-- the checks of a text in the concise form, in the order in which they run
 abbrev pub concise_checks : List ℕ → List (List LoadFault)
 concise_checks text =
     let devices = devices_of text in

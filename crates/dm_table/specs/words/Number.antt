@@ -8,7 +8,7 @@ pub record Spells (text : List ℕ) (number : ℕ) : Type 0 where
   pub digits : text ≡ decimal number
   pub short : number < 10 ^ 19
 
--- 1 to 19 digits, without a leading zero unless 0 is the only digit
+-- the text is a number: 1 to 19 digits, without a leading zero unless 0 is the only digit
 abbrev pub is_number : List ℕ → Bool
 is_number text = nat_le 1 (length text) && (nat_le (length text) 19 && ((not (slice_index text 0 == code "0") || length text == 1) && list_all is_ascii_digit text))
 
@@ -16,11 +16,11 @@ is_number text = nat_le 1 (length text) && (nat_le (length text) 19 && ((not (sl
 unfoldable pub number_of : List ℕ → Option ℕ
 number_of text = if is_number text then Some (digits_value 10 text) else None
 
--- the number in a field that is known to be one, else 0
+-- the number that a field spells, or 0 if the field spells none
 abbrev pub number_in : List ℕ → ℕ
 number_in field = unwrap_or (number_of field) 0
 
--- the first `len` bytes are at most 19 digits, and `number` is their value
+-- the first `len` bytes of a text are at most 19 digits, and `number` is their value
 pub record IsReadTo (text : List ℕ) (len number : ℕ) : Type 0 where
   pub short : len ≤ 19
   pub within : len ≤ length text

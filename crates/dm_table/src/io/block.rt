@@ -1,12 +1,12 @@
 //! Functions that copy the parts of a text into a block of bytes, one part after the other.
 //!
-//! Each contract says what the block holds up to the end of the part, so that the parts of a line add up.
-//! The bytes after the end may be anything: an array of a fixed size is copied whole, past the end of its
-//! text, because a copy of a known size is the cheapest.
+//! Each contract says what the block contains up to the end of the part, so that the contracts for the parts
+//! of a line combine. The bytes after the end may be anything: an array of a fixed size is copied whole, even
+//! the bytes after its text, because a copy of a known size is the cheapest.
 //!
-//! Copies of a fixed size, and the free space after a text that they need, are here for speed alone: RESULTS.md
-//! has their gain as *texts kept ready*. Each `requires` asks for that space; `TEXT_ROOM` makes a block big enough.
-//! Change them only if you measure small requests, and large ones over 16 columns, before and after.
+//! Copies of a fixed size, and the free space after a text that they need, are used for speed alone: RESULTS.md
+//! has their gain as *texts kept ready*. Each `requires` asks for that space; `TEXT_ROOM` bytes are always enough.
+//! Change these copies only if you measure small requests, and large requests over 16 columns, before and after.
 
 ghost use Rattle.dm_table.specs.Prelude.{length, take, drop, decimal, IsPut};
 ghost use Rattle.std.specs.Prelude.{◌≡◌, ◌++◌, ◌+◌, ◌≤◌};
@@ -24,8 +24,8 @@ fn copy_to(block: &mut [u8], at: usize, bytes: &[u8])
     block[at..at + bytes.len()].copy_from_slice(bytes);
 }
 
-/// Sets a slice to an array in one assignment. A copy from slice to slice would first check whether the two
-/// overlap.
+/// Sets a slice to an array of the same length in one assignment. A copy from slice to slice would first check
+/// whether they overlap.
 #[inline(always)]
 fn set_array<const LEN: usize>(place: &mut [u8], array: &[u8; LEN])
     requires { length place.old ≡ LEN }
@@ -37,10 +37,10 @@ fn set_array<const LEN: usize>(place: &mut [u8], array: &[u8; LEN])
     *whole = *array;
 }
 
-/// Copies an array into a block at offset `at`, and returns the offset after its text, which is its first `len` bytes.
+/// Copies an array, whose first `len` bytes are a text, into a block at offset `at`; returns the offset after the text.
 ///
-/// The array is copied 16 bytes at a time, each 16 read before they are written. An array copied as one value
-/// would first be stored on the stack when this function is inlined into a long one.
+/// The array is copied 16 bytes at a time, and each 16 bytes are read before they are written. An array that is
+/// copied as one value would first be stored on the stack when this function is inlined into a long one.
 #[inline(always)]
 pub fn put_array<const LEN: usize>(
     block: &mut [u8],
@@ -68,8 +68,8 @@ pub fn put_array<const LEN: usize>(
 
 /// Copies bytes into a block at offset `at`, and returns the offset after them.
 ///
-/// Most disk names are short, so lengths up to 8 have a copy of their own: a few instructions instead of a
-/// call.
+/// Most disk names are short, so lengths up to 8 are copied in a way of their own, with a few instructions
+/// instead of a call.
 #[inline(always)]
 pub fn put_bytes(block: &mut [u8], at: usize, bytes: &[u8]) -> usize
     requires { at + length bytes.now ≤ length block.old }
@@ -113,7 +113,7 @@ fn put_any(block: &mut [u8], at: usize, bytes: &[u8]) -> usize
 
 /// Writes a number in decimal into a block at offset `at`, and returns the offset after its last digit.
 ///
-/// The digits are counted first, so that each is written at its final offset.
+/// The digits are counted first, so that each digit is written directly at its final offset.
 #[inline(always)]
 pub fn put_digits(block: &mut [u8], at: usize, number: u64) -> usize
     requires { at + MOST_DIGITS ≤ length block.old }

@@ -1,6 +1,6 @@
 //! `Counted` makes any reader or writer of std an input or an output.
-//! std counts neither faults nor ends, and knows the bytes of few devices, so a history is kept beside the device.
-//! A proof knows of a real device only what is noted here: note each result at the point where it is returned.
+//! std counts neither faults nor ends, and knows the bytes of few devices, so a `Counted` keeps the history itself.
+//! A proof knows nothing about a real device but this history: record each result at the point where it is returned.
 ghost use Rattle.dm_table.specs.Prelude.{[], length, IfOk, Keeps, ReadConsumes, WriteAppends, given, fault_of, ends_added, unflushed};
 ghost use Rattle.std.specs.Prelude.{◌≡◌, ◌+◌, ◌<◌, ◌≤◌, ◌++◌};
 
@@ -8,7 +8,7 @@ use crate::io::device_io::{InFault, Input, OutFault, Output};
 use crate::io::ghost_list::{GhostList, Tally};
 use std::io::{Read, Write};
 
-/// A reader or writer of std with its history, which is ghost data and costs no memory and no time.
+/// A reader or writer of std, and its history, which is ghost data and so costs no memory and no time.
 #[derive(Drop)]
 pub struct Counted<T> {
     inner: T,
@@ -22,7 +22,7 @@ pub struct Counted<T> {
 }
 
 impl<T> Counted<T> {
-    /// Wraps a device, with an empty history.
+    /// Wraps a reader or writer of std, with an empty history.
     pub fn new(inner: T) -> Counted<T>
         ensures inner { result.inner ≡ inner }
         ensures bytes { (result.handed.items ≡ []) × (result.written.items ≡ [])
@@ -46,13 +46,13 @@ impl<T> Counted<T> {
 impl<T: Read> Input for Counted<T> {
     ghost past = { λ c. record { handed = c.handed.items; faults = c.read_faults; ends = c.ends } };
 
-    /// Reads from the reader once. Every error is a fault, `Interrupted` too.
+    /// Reads from the reader once. Every error is a fault, even `Interrupted`.
     fn read(&mut self, buffer: &mut [u8]) -> Result<usize, InFault>
         ensures within { IfOk result (λ n. n ≤ length buffer.new) }
         ensures bytes { self.new.handed.items ≡ self.old.handed.items ++ given result buffer.new }
         ensures faults { self.new.read_faults ≡ self.old.read_faults + fault_of result }
         ensures ends { self.new.ends ≡ self.old.ends + ends_added result (length buffer.new) }
-        // If std knows the reader's bytes, none of them is lost or made up.
+        // If std knows the bytes that the reader has left, the read hands out the first of them.
         ensures inner { ReadConsumes (T.remaining self.old.inner) (T.remaining self.new.inner)
             result buffer.new }
     {
@@ -82,8 +82,8 @@ impl<T: Write> Output for Counted<T> {
 
     ghost is_out = { λ c. Unit {0} };
 
-    /// Writes to the writer once. Every error is a fault, `Interrupted` too, and so is a 0 for a nonempty
-    /// slice.
+    /// Writes to the writer once. Every error is a fault, even `Interrupted`, and so is a return of 0 for a
+    /// nonempty slice.
     fn write(&mut self, bytes: &[u8]) -> Result<usize, OutFault>
         ensures within { IfOk result (λ n. n ≤ length bytes.now) }
         ensures progress { IfOk result (λ n. 0 < length bytes.now → 0 < n) }
@@ -91,7 +91,7 @@ impl<T: Write> Output for Counted<T> {
         ensures waiting { self.new.waiting.items ≡ self.old.waiting.items ++ given result bytes.now }
         ensures faults { self.new.write_faults ≡ self.old.write_faults + fault_of result }
         ensures flushes { self.new.flushes ≡ self.old.flushes }
-        // If std knows the writer's bytes, they grow by exactly the bytes that were accepted.
+        // If std knows the bytes that the writer contains, exactly the accepted bytes are appended to them.
         ensures inner { WriteAppends (T.contents self.old.inner) (T.contents self.new.inner)
             result bytes.now }
     {

@@ -1,6 +1,6 @@
 //! The traits for inputs and outputs, through which the program reads and writes bytes, and their faults.
-//! Each has a ghost member `past`, the history of all its calls, so that a contract can speak of any device.
-//! A change of a clause here affects every reader and writer in the crates above: check them all.
+//! Each trait has a ghost member `past`, the history of all calls, so that a contract can speak of any device.
+//! If you change a clause of these traits, check every reader and writer in the crates above.
 ghost use Rattle.dm_table.specs.Base.{length, IfOk};
 ghost use Rattle.dm_table.specs.io.DeviceIo.{InputPast, OutputPast, after_flush, after_read, after_write};
 ghost use Rattle.dm_table.specs.io.Progress.{Wrote};
@@ -25,7 +25,7 @@ pub trait Input {
     ghost past: { Self → InputPast };
 
     /// Fills the first bytes of the buffer and returns how many: 0 at an end, or if the buffer is empty.
-    /// The rest of the buffer, and all of it after a failed read, may hold anything.
+    /// The bytes after these, and after a failed read all bytes of the buffer, may be anything.
     fn read(&mut self, buffer: &mut [u8]) -> Result<usize, InFault>
         ensures within { IfOk result (λ n. n ≤ length buffer.new) }
         ensures past { past self.new ≡ after_read (past self.old) result buffer.new };
@@ -37,22 +37,22 @@ pub trait Output {
     /// and flushes failed, and how many flushes were requested.
     ghost past: { Self → OutputPast };
 
-    /// No accepted bytes are left in a buffer, unless a call of the output behind has failed.
+    /// The output has passed on all bytes that it accepted, unless a call of an output behind it has failed.
     ghost is_out: { Self → Type 0 };
 
     /// Accepts the first bytes of the slice and returns how many, which is 0 only for an empty slice.
-    /// A failed write accepts none.
+    /// A failed write accepts no bytes.
     fn write(&mut self, bytes: &[u8]) -> Result<usize, OutFault>
         ensures within { IfOk result (λ n. n ≤ length bytes.now) }
         ensures progress { IfOk result (λ n. 0 < length bytes.now → 0 < n) }
         ensures past { past self.new ≡ after_write (past self.old) result bytes.now };
 
     /// Passes all accepted bytes on to their destination. If the flush fails, all bytes that no earlier flush
-    /// passed on still count as waiting.
+    /// has passed on still count as waiting.
     fn flush(&mut self) -> Result<(), OutFault>
         ensures { past self.new ≡ after_flush (past self.old) result };
 
-    /// Writes all of a nonempty text. At a fault only a prefix of it has been written, and nothing is
+    /// Writes all of a nonempty text. At a fault only a prefix of the text has been written, and nothing is
     /// retried.
     fn put<T: Text>(&mut self, text: &T) -> Result<(), OutFault>
         requires { 0 < length (T.text text.now) }
@@ -68,8 +68,8 @@ pub trait Output {
         Ok(())
     }
 
-    /// Passes buffered bytes on without a flush, as far as possible. Call it before waiting for input.
-    /// It reports no fault: if it meets one, the next write, `put` or flush fails.
+    /// Passes buffered bytes on without a flush, as far as possible. Call `drain` before waiting for input.
+    /// It returns no fault; after a fault, the next write, `put` or flush fails.
     fn drain(&mut self)
         ensures past { past self.new ≡ past self.old }
         ensures out { is_out self.new };

@@ -1,9 +1,9 @@
 //! `Gathered`, an output that collects bytes in a block and writes them to another output when it is full.
 //!
 //! A system call per line would cost many times as much as the line itself. Each text is put directly into
-//! the block, which keeps free space for one more text at its end, so that only one test comes before each
-//! text: whether the block is full, or the output behind has failed. The limit is set to 0 when that output
-//! fails.
+//! the block, which keeps free space for one more text at its end, so that a single test comes before each
+//! text: whether the block is full or the output behind has failed. When that output fails, the block's limit
+//! is set to 0, so that the block counts as full.
 
 ghost use Rattle.dm_table.specs.Prelude.{[], false, length, slice_range, take, true, IfOk, IsErr, OnOk, nat_lt, after_flush, after_write, with_fault, MindsFaults, past_of, Wrote};
 ghost use Rattle.std.specs.Prelude.{◌≡◌, ◌↔◌, ◌+◌, ◌-◌, ◌<◌, ◌≤◌, ◌++◌};
@@ -14,25 +14,25 @@ use crate::io::ghost_list::Tally;
 use crate::io::text::{TEXT_ROOM, Text};
 use std::marker::Model;
 
-/// At this many collected bytes or more, they are passed on before the next text.
+/// The block is full at this many bytes: all collected bytes are passed on before the next text.
 const FULL: usize = 65536;
 
-/// The size of the block in bytes.
+/// The size of the block in bytes: one more text fits in as long as the block isn't full.
 const BLOCK_BYTES: usize = FULL + TEXT_ROOM;
 
 /// An output that collects bytes in front of another output.
 ///
-/// It passes bytes on in order, and all of them at a flush. Once a call of the other output has failed, that
-/// output isn't called any more: the bytes it did not accept stay in the block, and each write, `put` and
-/// flush fails. A fault that `drain` meets is counted by the next of these calls. The fault and flush counts
-/// are this output's own; those of the other output aren't visible here.
+/// Bytes are passed on in order, and all of them at a flush. Once a call of the other output has failed, that
+/// output isn't called any more: the bytes that it didn't accept stay in the block, and each write, `put` and
+/// flush fails. A fault that `drain` meets is counted by the next write, `put` or flush. The fault and flush
+/// counts are this output's own; those of the other output aren't visible.
 #[derive(Drop)]
 pub struct Gathered<W: Output> {
     output: W,
     block: [u8; BLOCK_BYTES],
     len: usize,
-    /// At this many collected bytes or more, they are passed on before the next text. It is 0 once the other
-    /// output has failed, so that every write tries to pass bytes on and fails.
+    /// At this many collected bytes or more, all are passed on before the next text. The limit is 0 once the
+    /// other output has failed, so that every write tries to pass bytes on and fails.
     limit: usize,
     faults: Tally,
     flushes: Tally,
@@ -80,7 +80,7 @@ impl<W: Output> Gathered<W> {
         }
     }
 
-    /// Passes all collected bytes on. A fault of the output behind is returned, and counted as this output's own.
+    /// Passes all collected bytes on. If the output behind has failed, now or before, returns a fault and counts it.
     #[cold]
     #[inline(never)]
     fn try_drain(&mut self) -> Result<(), OutFault>
@@ -188,8 +188,8 @@ impl<W: Output> Output for Gathered<W> {
         Ok(())
     }
 
-    /// After a fault of the output behind, the bytes it did not accept stay in the block. The fault is reported by
-    /// the next write, `put` or flush.
+    /// Passes all collected bytes on. At a fault of the output behind, the bytes that it didn't accept stay in the
+    /// block, and the next write, `put` or flush fails.
     fn drain(&mut self)
         ensures past { past_of self.new ≡ past_of self.old }
         ensures minds { MindsFaults self.old self.new }

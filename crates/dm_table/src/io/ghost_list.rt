@@ -1,12 +1,12 @@
 //! Lists and counts that exist only in proofs.
-//! The history of a device has no limit on its length or counts, so no variable of the machine could hold it.
-//! Two proofs written by hand change the lists: add a method only if no calls of these two will do.
+//! The history of a device can have any length and any counts, so no machine variable could hold it.
+//! Two proofs written by hand change the lists: add a method only if `new` and `note` don't suffice.
 ghost use Rattle.dm_table.specs.Base.{ℕ, List, [], length, ftrue};
 ghost use Rattle.std.specs.Prelude.{◌≡◌, ◌+◌, ◌++◌};
 
 use std::marker::{Model, PhantomData};
 
-/// A growing list that only proofs read; its size in memory is zero.
+/// A growing list that only proofs read; it uses no memory.
 #[derive(Drop)]
 pub struct GhostList<T> {
     of: PhantomData<T>,
@@ -33,7 +33,7 @@ impl<T> GhostList<T> {
     {}
 }
 
-/// A count without an upper limit that only proofs read; its size in memory is zero.
+/// A count that only proofs read; it has no upper limit and uses no memory.
 #[derive(Drop)]
 pub struct Tally {
     ticks: GhostList<()>,

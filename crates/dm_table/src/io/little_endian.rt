@@ -1,4 +1,4 @@
-//! Numbers in bytes, the least significant byte first.
+//! Little-endian numbers: the least significant byte comes first.
 
 ghost use Rattle.dm_table.specs.Base.{length};
 ghost use Rattle.dm_table.specs.io.LittleEndian.{eight_at, four_at};
@@ -6,7 +6,7 @@ ghost use Rattle.std.specs.Prelude.{◌≡◌, ◌+◌, ◌≤◌};
 
 use byteorder::{ByteOrder, LittleEndian};
 
-/// The number of four bytes, from a byte on.
+/// The little-endian number in the four bytes from offset `at` on.
 #[inline(always)]
 #[tactic(auto, unfolding(crate::specs::io::LittleEndian::four_at))]
 pub fn four_at(bytes: &[u8], at: usize) -> u32
@@ -16,7 +16,7 @@ pub fn four_at(bytes: &[u8], at: usize) -> u32
     LittleEndian::read_u32(&bytes[at..])
 }
 
-/// The number of eight bytes, from a byte on.
+/// The little-endian number in the eight bytes from offset `at` on.
 #[inline(always)]
 #[tactic(auto, unfolding(crate::specs::io::LittleEndian::eight_at))]
 pub fn eight_at(bytes: &[u8], at: usize) -> u64

@@ -1,11 +1,11 @@
-//! Sectors of 512 bytes, by which images and disks are read.
+//! Sectors of 512 bytes, the unit in which images and disks are read.
 
-/// The bytes of a sector.
+/// The size of a sector in bytes.
 pub const SECTOR: usize = 512;
 
-/// The most bytes of one read.
+/// The most bytes that one read may request.
 pub const MOST_BYTES: usize = 65_536;
 
-/// An image or a disk that can't be opened or read, or ends before.
+/// The fault of an image or a disk that can't be opened or read, or that ends before the sectors to be read.
 #[derive(Clone, Copy, Debug, PartialEq, Eq, Drop)]
 pub struct ReadFault;

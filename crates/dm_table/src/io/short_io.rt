@@ -1,6 +1,6 @@
 //! An in-memory input and output for tests, which move a few bytes per call and fail when a test wants them to.
-//! Contracts say exactly what each call does, so that a test over them shows what it claims to.
-//! After the first end or fault, each later call meets it again: keep it so, and keep the contracts exact.
+//! Their contracts say exactly what each call does, so that a test that uses them shows what it claims to.
+//! After the first end or fault, each later call must meet it again; keep the contracts exact.
 ghost use Rattle.dm_table.specs.Prelude.{length, take, drop, true, false, is_err, IsErr, IsTrue, IfOk, vec_len, vec_capacity, after_flush, after_read, after_write, fault_of};
 ghost use Rattle.dm_table.specs.io.ShortIo.{Supply, fresh_supply, Intake, fresh_intake, HandsOut, TakesIn, PassesOn};
 ghost use Rattle.std.specs.Prelude.{◌≡◌, ◌+◌, ◌<◌, ◌≤◌, ◌++◌, ◌↔◌, ◌||◌, if◌then◌else◌};
@@ -53,7 +53,7 @@ impl<'a> ShortIn<'a> {
         ShortIn::made(&bytes[..count], step, true)
     }
 
-    /// An input that nothing has been read from yet.
+    /// An input over these bytes that nothing has been read from yet.
     fn made(bytes: &'a [u8], step: usize, fails: bool) -> ShortIn<'a>
         requires { 0 < step }
         ensures { result ≡ fresh_supply bytes.now step fails }
@@ -68,7 +68,7 @@ impl<'a> ShortIn<'a> {
         }
     }
 
-    /// Reads when no bytes are left: a fault if `fails` is set, else 0, which is an end unless the buffer is empty.
+    /// Reads when no bytes are left: a fault if `fails` is set, else 0, which counts as an end unless `is_full` is set.
     fn read_nothing(&mut self, is_full: bool) -> Result<usize, InFault>
         ensures fault { IsErr result ↔ IsTrue self.old.fails }
         ensures zero { IfOk result (λ n. n ≡ 0) }
@@ -93,7 +93,7 @@ impl<'a> ShortIn<'a> {
 impl<'a> Input for ShortIn<'a> {
     ghost past = { λ s. s.past };
 
-    /// Hands out the next bytes: at most `step`, and no more than are left or the buffer holds.
+    /// Hands out the next bytes: at most `step`, and no more than are left or fit into the buffer.
     fn read(&mut self, buffer: &mut [u8]) -> Result<usize, InFault>
         ensures within { IfOk result (λ n. n ≤ length buffer.new) }
         ensures past { self.new.past ≡ after_read self.old.past result buffer.new }
@@ -110,7 +110,7 @@ impl<'a> Input for ShortIn<'a> {
     }
 }
 
-/// An in-memory output that keeps what is written, at most `step` bytes per write. Once full, each write fails.
+/// An in-memory output that keeps the bytes written to it, at most `step` per write. Once it is full, writes fail.
 #[derive(Drop)]
 pub struct ShortOut {
     taken: Vec<u8>,
@@ -141,7 +141,7 @@ impl Model for ShortOut {
 }
 
 impl ShortOut {
-    /// An output that accepts `count` bytes and then fails; flushes succeed. Allocates all of its memory here.
+    /// An output that accepts `count` bytes and then fails; flushes succeed. All of its memory is allocated now.
     pub fn new(alloc: Global, step: usize, count: usize) -> Result<ShortOut, AllocError>
         requires { 0 < step }
         ensures { IfOk result (λ s. s ≡ fresh_intake step count false) }
@@ -157,7 +157,7 @@ impl ShortOut {
         ShortOut::made(alloc, step, count, true)
     }
 
-    /// An output that nothing has been written to yet.
+    /// An output with this room that nothing has been written to yet.
     fn made(
         alloc: Global,
         step: usize,
@@ -191,7 +191,7 @@ impl Output for ShortOut {
 
     ghost is_out = { λ s. Unit {0} };
 
-    /// Accepts the first bytes: at most `step`, and no more than the slice has or the output has room for.
+    /// Accepts the first bytes of the slice: at most `step`, and no more than the output has room for.
     fn write(&mut self, bytes: &[u8]) -> Result<usize, OutFault>
         ensures within { IfOk result (λ n. n ≤ length bytes.now) }
         ensures progress { IfOk result (λ n. 0 < length bytes.now → 0 < n) }
@@ -203,7 +203,7 @@ impl Output for ShortOut {
             return Err(OutFault);
         }
         let n = self.step.min(bytes.len().min(self.room));
-        // The vector has had its full capacity since the output was made.
+        // This never fails, because the vector has had its full capacity since the output was made.
         let Ok(()) = self.taken.extend_from_slice(&bytes[..n]) else {
             unreachable!()
         };
@@ -212,7 +212,7 @@ impl Output for ShortOut {
         Ok(n)
     }
 
-    /// Fails if the output was made with `flush_fails`.
+    /// Flushes, and fails exactly if the output was made by `failing_flush`.
     fn flush(&mut self) -> Result<(), OutFault>
         ensures past { self.new.past ≡ after_flush self.old.past result }
         ensures exact { PassesOn self.old self.new result }

@@ -1,6 +1,6 @@
 //! Why a load was refused: the kind of fault, and the place where it was found.
 //!
-//! One type serves all readers and checks, so that a caller can report any fault in the same way.
+//! All readers and checks return the same type of fault, so that a caller can report any fault in the same way.
 //! A new kind needs a word in `LoadKind::word`, and in `kind_word` of `specs/load/LoadMessage.antt`.
 
 ghost use Rattle.dm_table.specs.Prelude.{Some, length, IsMemoryFault, fault_at, kind_word};
@@ -17,46 +17,46 @@ pub enum LoadKind {
     Read,
     /// The part has more than 1,048,576 bytes.
     Long,
-    /// A byte that may not occur in a text.
+    /// The text contains a byte that may not occur in it.
     NotText,
-    /// A line or device without the structure of its form.
+    /// A line or a device in the text doesn't have the structure that the text's form requires.
     Syntax,
-    /// A field that is missing or isn't a valid number, an unknown target, or wrong arguments.
+    /// A field is missing or isn't a valid number, a target is unknown, or its arguments are wrong.
     Field,
-    /// An invalid name of a device, a disk or a volume.
+    /// The name of a device, a disk or a volume isn't valid.
     Name,
-    /// A name of a device or disk, or a key of metadata, that occurs twice.
+    /// A name of a device or disk, or a key of metadata, occurs twice.
     Twice,
-    /// A device without lines, or a length of 0.
+    /// A device has no lines, or a length is 0.
     Empty,
-    /// A line that starts after the end of the one before.
+    /// A line starts after the end of the line before.
     Gap,
-    /// A line that starts before the end of the one before.
+    /// A line starts before the end of the line before.
     Overlap,
-    /// A line that names an unknown device or disk, or metadata that names an unknown volume.
+    /// A line names an unknown device or disk, or metadata names an unknown volume.
     Unknown,
-    /// A device that is, directly or through other devices, below itself.
+    /// A device is below itself, directly or through other devices.
     Cycle,
-    /// A device with too many levels of devices below it, or sections of metadata nested too deep.
+    /// A device has too many levels of devices below it, or sections of metadata are nested too deep.
     Deep,
-    /// A line that maps sectors past the end of the device or disk below.
+    /// A line maps to sectors past the end of the lower device or disk.
     Range,
-    /// A striped line with a bad number of columns or chunk size, or a length that they don't divide.
+    /// A striped line has a bad number of columns or a bad chunk size, or a length that doesn't fit them.
     Stripe,
-    /// A snapshot, or a snapshot-origin line, that doesn't fit its table or the devices or volumes that it names.
+    /// A snapshot or snapshot-origin line doesn't fit its table, or the devices or volumes that it names.
     Snapshot,
-    /// An exception store that cannot hold the exceptions of a snapshot.
+    /// An exception store can't hold the exceptions of its snapshot.
     Store,
-    /// Extents of an LVM2 volume that are misplaced, used twice, or past the end of their device.
+    /// Extents of an LVM2 volume are misplaced, used twice, or past the end of their device.
     Extents,
-    /// A number or a count above its limit.
+    /// A number or a count is above its limit.
     Limit,
     /// Memory ran out: an allocation was refused.
     Memory,
 }
 
 impl LoadKind {
-    /// The word for the kind in a message.
+    /// The word for this kind of fault in a message.
     pub(crate) fn word(self) -> &'static str
         ensures word { result.now ≡ kind_word self }
         ensures short { length result.now ≤ 8 }
@@ -103,7 +103,7 @@ pub struct LoadFault {
 }
 
 impl LoadFault {
-    /// A fault at a line or device of a part, counted from 1, or at 0 for the part as a whole.
+    /// A fault at line or device `number` of a part, counted from 1, or at number 0 for the part as a whole.
     pub(crate) fn at(part: Part, kind: LoadKind, number: u64) -> LoadFault
         ensures { result ≡ fault_at part kind number }
     {
@@ -120,8 +120,8 @@ impl LoadFault {
         LoadFault::at(part, LoadKind::Memory, 0)
     }
 
-    /// A fault at the line or device with this index, which counts from 0, while places count from 1. An
-    /// index into a slice of slices or vectors is always below 2^63.
+    /// A fault at the line or device with this index, which is counted from 0, while places are counted from
+    /// 1. An index into a slice of slices or vectors is always below 2^63.
     pub(crate) fn at_index(part: Part, kind: LoadKind, index: usize) -> LoadFault
         requires { index < 2 ^ 63 }
         ensures { result ≡ fault_at part kind (index + 1) }

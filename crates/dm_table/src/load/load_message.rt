@@ -1,7 +1,7 @@
 //! The one-line message of a refused load.
 //!
-//! The wording is fixed in `specs/load/LoadMessage.antt`, because users match on it. A new kind of fault needs
-//! an arm there and in `LoadKind::word`.
+//! `specs/load/LoadMessage.antt` fixes the wording, because users match on it. A new kind of fault needs an
+//! arm in `kind_word` of that file and in `LoadKind::word`.
 
 ghost use Rattle.dm_table.specs.Prelude.{length, load_message, memory_message};
 ghost use Rattle.std.specs.Prelude.{◌≡◌, ◌≤◌};
@@ -15,7 +15,7 @@ pub type LoadMessage = ArrayVec<u8, 96>;
 
 impl LoadFault {
     /// Builds the message of a refused load: the program's name, the part, the kind of fault, and the number
-    /// of its place; a part that could not be read, or is too long, has no number. `Memory` names no part.
+    /// of the fault's place. `Read` and `Long` have no number, and `Memory` has neither number nor part.
     /// Allocates nothing.
     #[tactic(auto, using(crate::proofs::load::FaultLemmas::part_short))]
     pub fn message(self) -> LoadMessage

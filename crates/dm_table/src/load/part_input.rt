@@ -1,8 +1,8 @@
 //! Reads a part of a load into memory as a whole, before anything in it is checked.
 //!
-//! A part has a size limit, so it fits in memory; a part that is too long is refused at the first
-//! byte over the limit, however long it is. All parts are read by this one function: a new part is
-//! a new variant of `Part` and needs no change here.
+//! A part has a size limit, so that it fits in memory; a longer part is refused once more bytes than the
+//! limit have been read, however long it is. `read_part` reads all parts: a new part is a new variant of
+//! `Part` and needs no change in this module.
 
 ghost use Rattle.dm_table.specs.Prelude.{IfOk, IfErr, delivery, IsMemoryFault, Refuses, TextOf, part_read, IsReadOn, Memory};
 ghost use Rattle.std.specs.Prelude.{◌≡◌, ◌≢◌};
@@ -15,7 +15,7 @@ use std::alloc::Global;
 /// The size limit for a part of a load, in bytes.
 pub const MOST_PART_BYTES: usize = 1_048_576;
 
-/// How many bytes are requested per read.
+/// How many bytes each read requests.
 const CHUNK: usize = 16384;
 
 /// Reads a part of a load to its end.
@@ -26,8 +26,8 @@ const CHUNK: usize = 16384;
 /// | `Long` | the part has more than 1,048,576 bytes, which takes precedence over `Read` |
 /// | `Memory` | an allocation was refused |
 ///
-/// The input isn't read again after an end or a fault. Cost: linear in the bytes read, which exceed the
-/// limit by at most 16,384.
+/// The input isn't read again after an end or a fault. Cost: linear in the number of bytes read, which
+/// exceeds the limit by at most 16,384.
 pub fn read_part<I: Input>(alloc: Global, part: Part, input: &mut I) -> Result<Vec<u8>, LoadFault>
     ensures text { IfOk result
         (λ text. part_read part (delivery (I.past input.old) (I.past input.new)) ≡ TextOf text.items) }

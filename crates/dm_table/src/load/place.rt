@@ -1,7 +1,7 @@
 //! A place in the texts of a load: a part, and a number of a line or device in it.
 //!
-//! Devices, lines and disks keep their place, so that a fault found later can name it.
-//! A load that reads one more text needs one more variant of `Part`.
+//! Devices, lines and disks keep their place, so that a fault that is found later can name it.
+//! If a load is to read one more text, `Part` needs one more variant.
 
 ghost use Rattle.dm_table.specs.Prelude.{Some, part_word};
 ghost use Rattle.std.specs.Prelude.{◌≡◌};

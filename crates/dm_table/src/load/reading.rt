@@ -1,8 +1,8 @@
-//! Reads the lines of a text: collects the values of its rows, and the first fault of each kind.
+//! Reads the lines of a text: collects the values of the text's rows, and the first fault of each kind.
 //!
 //! The checks of a text are defined as running one after another, so which fault counts is known only at
-//! the end; a text with a fault gives no values. A type that lines are read into implements `FromRows`,
-//! and `read_lines` reads a text into values of that type.
+//! the end of the text; if there is a fault, no values are returned. A type that lines are read into
+//! implements `FromRows`, and `read_lines` reads a text into values of that type.
 
 ghost use Rattle.dm_table.specs.Prelude.{ℕ, Bool, List, [], None, Ok, IfOk, OnOk, length, map, texts, lines_of, rest_of, Answers, first_fault, is_printable, row_checks, unless, line_checks, with_rows, Reads, no_faults, noted_rest, noted_rows, row_fault, first_noted};
 ghost use Rattle.std.specs.Prelude.{◌≡◌, ◌+◌};
@@ -44,9 +44,9 @@ impl<T: Drop> Reading<T> {
     }
 }
 
-/// A type that lines of a text are read into: a disk from one line, a device from all lines with its name.
+/// A type that lines of a text are read into, such as a disk from one line, or a device from one or more lines.
 pub(crate) trait FromRows: Drop {
-    /// How a line is cut into fields.
+    /// The row of fields that a line is cut into.
     ghost row_of: { List ℕ → List (List ℕ) };
 
     /// Whether fields have the form of a row; if not, the fault is `Syntax`.
@@ -58,16 +58,16 @@ pub(crate) trait FromRows: Drop {
     /// Whether the names in a row are valid; if not, the fault is `Name`.
     ghost has_names: { List (List ℕ) → Bool };
 
-    /// The list of values after one more row, which has this number and no fault.
+    /// The list of values after one more row, from the row's number and its fields; the row has no fault.
     ghost with_row: { List Self → ℕ → List (List ℕ) → List Self };
 
-    /// Cuts a line into its fields, replacing the previous line's fields, so that one vector serves all
-    /// lines.
+    /// Cuts a line into its fields, which replace the fields of the previous line, so that one vector serves
+    /// all lines.
     fn cut_line<'a>(row: &mut Vec<&'a [u8]>, line: &'a [u8]) -> Result<(), AllocError>
         ensures { OnOk result (texts row.new.items ≡ row_of line.now) };
 
-    /// Adds what row `number` of a text describes to the values of the rows before it. After a fault, the values
-    /// may be anything.
+    /// Adds what row `number` of a text describes to the values of the rows before that row. After a fault, the
+    /// values may be anything.
     fn read_row(
         alloc: Global,
         values: &mut Vec<Self>,
@@ -79,7 +79,7 @@ pub(crate) trait FromRows: Drop {
             (unless (row_fault is_row has_values has_names (texts row.now)) tt) };
 }
 
-/// The values that the lines of a text describe, or the first fault of the first check that finds any. Takes
+/// The values that the lines of a text describe, or the first fault of the first check that finds any. Makes
 /// one pass to check the bytes and one to read the lines.
 pub(crate) fn read_lines<T: FromRows>(
     alloc: Global,
@@ -96,8 +96,8 @@ pub(crate) fn read_lines<T: FromRows>(
     read_rows(alloc, part, text)
 }
 
-/// The values that the lines of a text describe, or the first fault of the first check of rows that finds any. The
-/// bytes of the text have been checked before. One pass.
+/// The values that the lines of a text describe, or the first fault of the first row check that finds any. The
+/// bytes of the text must have been checked before. Makes one pass.
 pub(crate) fn read_rows<T: FromRows>(
     alloc: Global,
     part: Part,
@@ -114,8 +114,8 @@ pub(crate) fn read_rows<T: FromRows>(
     }
 }
 
-/// Reads each complete line in place, with one vector of fields for all lines, and notes a fault if an
-/// unterminated line follows.
+/// Reads each complete line in place, with one vector of fields for all lines, and keeps a `Syntax` fault if
+/// an unterminated line follows.
 fn read_each<T: FromRows>(alloc: Global, part: Part, text: &[u8]) -> Result<Reading<T>, AllocError>
     ensures values { IfOk result (λ reading. first_noted reading.faults ≡ None
         → reading.values.items ≡ with_rows T.with_row [] 1 (map T.row_of (lines_of text.now))) }

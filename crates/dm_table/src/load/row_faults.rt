@@ -1,8 +1,8 @@
 //! The fault of a row of fields, and the first fault of each kind in a text.
 //!
 //! The checks of a text are defined as running one after another, each over all rows. Still, each row is
-//! read only once: the first fault of each kind is kept, and in the end the kind whose check comes first
-//! counts. A new kind is added to `specs/load/RowFaults.antt` first.
+//! read only once: the first fault of each kind is kept, and at the end the one whose check comes first is
+//! returned. To add a kind of fault, change `specs/load/RowFaults.antt` first.
 
 ghost use Rattle.dm_table.specs.Prelude.{Some, OnOk, fault_at, no_faults, either, fault_in, noted_at, noted_rest, first_noted};
 ghost use Rattle.dm_table.specs.declared.load.row_faults.RowFault.TheVariants.{Memory};
@@ -17,9 +17,9 @@ use std::alloc::{AllocError, AllocFailed};
 pub(crate) enum RowFault {
     /// The fields don't have the form of a row.
     Syntax,
-    /// A field that should be a number and isn't, an unknown target, or wrong arguments.
+    /// A field should be a number and isn't, a target is unknown, or its arguments are wrong.
     Field,
-    /// A name that isn't valid.
+    /// A name in the fields isn't valid.
     Name,
     /// Memory ran out: an allocation was refused.
     Memory,
@@ -61,7 +61,7 @@ impl FirstFaults {
         }
     }
 
-    /// Keeps the fault of row `number`, if it has one and no earlier row has one of that kind.
+    /// Keeps the fault of row `number`, if the row has one and no earlier row has a fault of the same kind.
     /// Returns an error if memory ran out, so that the caller stops reading.
     pub(crate) fn note(
         &mut self,
@@ -82,7 +82,7 @@ impl FirstFaults {
         Ok(())
     }
 
-    /// Keeps a `Syntax` fault at line `number` if the text ends with an unterminated line, `rest`.
+    /// Keeps a `Syntax` fault at line `number` if `rest`, the bytes after the text's last newline, isn't empty.
     pub(crate) fn note_rest(&mut self, part: Part, number: u64, rest: &[u8])
         ensures { self.new ≡ noted_rest part self.old number rest.now }
     {
@@ -91,7 +91,7 @@ impl FirstFaults {
         }
     }
 
-    /// The fault that counts: `Syntax` before `Field` before `Name`.
+    /// The fault to return: the first `Syntax` fault, else the first `Field` fault, else the first `Name` fault.
     pub(crate) fn first(&self) -> Option<LoadFault>
         ensures { result ≡ first_noted self.now }
     {
@@ -105,7 +105,7 @@ impl FirstFaults {
     }
 }
 
-/// Stores a fault of this kind, unless an earlier one is stored already.
+/// Stores a fault of this kind, unless an earlier fault is stored already.
 fn keep(first: &mut Option<LoadFault>, part: Part, kind: LoadKind, number: u64)
     ensures { first.new ≡ either first.old (Some (fault_at part kind number)) }
 {

@@ -1,6 +1,6 @@
-//! The first check of every text: whether all of its bytes may occur in a text.
+//! The first check of every text: whether each of its bytes may occur in a text of this form.
 //!
-//! A fault of this check takes precedence over faults of rows, so it runs before the rows are
+//! A fault of this check takes precedence over faults of rows, so the check runs before the rows are
 //! read.
 
 ghost use Rattle.dm_table.specs.Prelude.{ℕ, Bool, List, None, IfSome, Memory, texts, parts_at, Answers, unless, first_or, is_printable, not_text, untexts};
@@ -11,7 +11,7 @@ use crate::load::place::Part;
 use crate::words::fields::cut;
 use std::alloc::Global;
 
-/// A rule that says which lines, or other pieces of a text, have valid bytes.
+/// A rule that says which bytes the lines, or other pieces, of a text may contain.
 pub(crate) trait TextRule {
     /// Whether the bytes of a piece are valid.
     ghost is_text: { List ℕ → Bool };
@@ -32,13 +32,13 @@ impl TextRule for Printable {
     }
 }
 
-/// Refuses a text that has a byte other than printable ASCII and newlines. The fault has the number of the piece with
-/// that byte; bytes equal to `at` separate the pieces. One pass, and more only for a text that is refused.
+/// Refuses a text that contains a byte other than printable ASCII and newlines. The fault has the number of the piece
+/// with that byte; bytes equal to `at` separate the pieces. Makes one pass, and more only if the text is refused.
 pub(crate) fn check_text(alloc: Global, part: Part, at: u8, text: &[u8]) -> Result<(), LoadFault>
     ensures { Answers part (λ done. done) result
         (unless (first_or (not_text part (parts_at at text.now)) None) tt) }
 {
-    // Most texts have no bad byte, and one test of the whole text is faster than a test of each piece.
+    // Most texts contain no bad byte, and one test of the whole text is faster than a test of each piece.
     if is_printable(text) {
         return Ok(());
     }

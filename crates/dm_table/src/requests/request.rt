@@ -1,7 +1,7 @@
-//! The type of a request, as a request line gives it, and the faults of a line.
+//! The type of a request, as a request line describes it, and the faults of request lines.
 //!
 //! A request borrows its device name from its line, so that reading a request allocates nothing. A new field
-//! of a request is also a new field of the line in `request_line`.
+//! of a request also has to be read from the line, in `request_line`.
 
 ghost use Rattle.dm_table.specs.declared.requests.request.TheConstants.{MOST_SECTORS};
 ghost use Rattle.std.specs.Prelude.{◌≤◌};
@@ -18,7 +18,7 @@ pub enum Op {
     Write,
 }
 
-/// A request to read or write `len` sectors of a device from sector `start` on. Its number is its line's, from 1.
+/// A request to read or write `len` sectors of a device from sector `start` on, described on line `number`, from 1.
 #[derive(Clone, Copy, Debug)]
 pub struct Request<'a> {
     pub number: u64,
@@ -30,16 +30,16 @@ pub struct Request<'a> {
     ghost at_most: { len ≤ MOST_SECTORS },
 }
 
-/// Why a line is no request.
+/// Why a line isn't a valid request.
 #[derive(Clone, Copy, Debug, PartialEq, Eq, Error)]
 pub enum RequestFault {
-    /// The line isn't `R` or `W`, a valid device name and two more fields, with single spaces between them.
+    /// The line doesn't consist of `R` or `W`, a valid device name and two more fields, separated by single spaces.
     #[error("form")]
     Form,
     /// The start or the length isn't a valid number.
     #[error("number")]
     Number,
-    /// The length is 0, or more than `MOST_SECTORS`.
+    /// The length is 0 or more than `MOST_SECTORS` sectors.
     #[error("length")]
     Length,
 }

@@ -1,13 +1,13 @@
 //! Reads request lines: `R DEV START LEN` and `W DEV START LEN`.
 //!
-//! Request lines come by the hundreds of millions, so they are cut in place, without allocating. Their meaning
-//! is defined in `specs/requests/RequestLine.antt`: change it there first.
+//! There may be hundreds of millions of request lines, so each is cut in place, without allocating.
+//! `specs/requests/RequestLine.antt` defines what a request line means: change that file first.
 //!
-//! There are two readers. `parse_request` reads any line, and says what is wrong with a bad one. `first_op` and
-//! `front_request` read good lines from a buffer, for speed alone: RESULTS.md has their gain as *requests read
+//! There are two readers. `parse_request` reads any line, and returns the fault of a bad one. `first_op` and
+//! `front_request` read valid lines from a buffer, for speed alone: RESULTS.md has their gain as *requests read
 //! where they stand*, and that of `first_op` as *a request's letter known by its last bit*. They need `FRONT` bytes
 //! after the start of each number, so that they needn't look for the end of the text, and give up on other lines.
-//! Change them only if you measure small requests, in instructions and jumps, before and after.
+//! Change `first_op` and `front_request` only if you measure small requests, in instructions and jumps.
 
 ghost use Rattle.dm_table.specs.Prelude.{ℕ, List, [], length, take, drop, Some, Ok, Err, true, false, IfSome, IfNone, IsOkAnd, IfOk, IfErr, Op, Form, Number, is_device_name, number_of, fields, RequestValues, DescribesRequest, IsFront, AreNumbers, values_of, op_text, has_form, are_two, request_reading, code};
 ghost use Rattle.dm_table.specs.declared.words.front_digits.TheConstants.{FRONT};
@@ -20,11 +20,11 @@ use crate::words::name::ascii_str;
 use crate::words::number;
 use memchr::memchr;
 
-/// The most bytes that two numbers use, each with the separator after it. If that many bytes are left in a text,
-/// its end needn't be checked again.
+/// The most bytes that two numbers have, each with the separator after it. If that many bytes are left in a text,
+/// both numbers can be read without checking for the end of the text.
 const NUMBERS_ROOM: usize = 2 * FRONT;
 
-/// The text after its first `len` bytes and a space, or `None` if no space follows those bytes.
+/// The bytes of a text after the first `len` bytes and a space, or `None` if no space follows those `len` bytes.
 #[inline(always)]
 fn after_space<'a>(text: &'a [u8], len: usize) -> Option<&'a [u8]>
     requires { len ≤ length text.now }
@@ -39,8 +39,8 @@ fn after_space<'a>(text: &'a [u8], len: usize) -> Option<&'a [u8]>
 
 /// The operation for a letter, `R` or `W`.
 ///
-/// Decides by the letter's last bit, which is 1 for `W` alone, rather than by two comparisons: compilers turn
-/// those into a jump, and a processor predicts only half of these jumps right.
+/// The letter's last bit, which is 1 for `W` and 0 for `R`, decides instead of two comparisons: compilers turn two
+/// comparisons into a jump, and a processor predicts only half of these jumps right.
 #[inline(always)]
 fn op_of(letter: u8) -> Option<Op>
     ensures named { IfSome result (λ op. letter ≡ op_text op) }
@@ -53,7 +53,7 @@ fn op_of(letter: u8) -> Option<Op>
     Some(if last == 1 { Op::Write } else { Op::Read })
 }
 
-/// The operation at the start of a request line, and the text after its space.
+/// The operation at the start of a request line, and the text after the space that follows.
 #[inline(always)]
 pub fn first_op<'a>(line: &'a [u8]) -> Option<(Op, &'a [u8])>
     ensures cut { IfSome result (λ cut. fields line.now ≡ (op_text cut.0 ∷ []) ∷ fields cut.1.now) }
@@ -68,7 +68,7 @@ pub fn first_op<'a>(line: &'a [u8]) -> Option<(Op, &'a [u8])>
     Some((op, rest))
 }
 
-/// The device name in the first field of a text, and the text after its space.
+/// The device name in the first field of a text, and the text after the space that follows.
 #[inline(always)]
 fn first_name<'a>(text: &'a [u8]) -> Option<(&'a str, &'a [u8])>
     ensures cut { IfSome result (λ cut. fields text.now ≡ cut.0.now ∷ fields cut.1.now) }
@@ -82,7 +82,7 @@ fn first_name<'a>(text: &'a [u8]) -> Option<(&'a str, &'a [u8])>
     Some((ascii_str(&text[..len]), rest))
 }
 
-/// The number in the first field of a text, and the text after its space.
+/// The number in the first field of a text, and the text after the space that follows.
 #[inline(always)]
 fn first_number<'a>(text: &'a [u8]) -> Option<(u64, &'a [u8])>
     ensures cut { IfSome result (λ cut. (field : List ℕ) × (fields text.now ≡ field ∷ fields cut.1.now)
@@ -97,7 +97,7 @@ fn first_number<'a>(text: &'a [u8]) -> Option<(u64, &'a [u8])>
     Some((number, rest))
 }
 
-/// The operation and the device at the start of a request line, and the text after the device's space.
+/// The operation and the device at the start of a request line, and the text after the space that follows both.
 #[inline(always)]
 fn head<'a>(line: &'a [u8]) -> Option<(Op, &'a str, &'a [u8])>
     ensures cut { IfSome result
@@ -112,7 +112,7 @@ fn head<'a>(line: &'a [u8]) -> Option<(Op, &'a str, &'a [u8])>
     Some((op, device, rest))
 }
 
-/// The two numbers in a text of two fields.
+/// The two numbers that a text of two fields spells, or `None` if the text isn't two numbers.
 fn two_numbers(text: &[u8]) -> Option<(u64, u64)>
     ensures cut { IfSome result (λ read. AreNumbers (fields text.now) read.0 read.1) }
     ensures other { IfNone result ((m n : ℕ) → AreNumbers (fields text.now) m n → ⊥) }
@@ -122,7 +122,8 @@ fn two_numbers(text: &[u8]) -> Option<(u64, u64)>
     Some((start, len))
 }
 
-/// The fault of a request line whose text after the device isn't two numbers: `Number` for two fields, else `Form`.
+/// The fault of a request line in which `text`, after the device, isn't two numbers: `Number` if it is two nonempty
+/// fields, else `Form`.
 fn number_fault(text: &[u8]) -> RequestFault
     ensures { result ≡ (if are_two (fields text.now) then Number else Form) }
 {
@@ -141,26 +142,26 @@ fn number_fault(text: &[u8]) -> RequestFault
 
 /// Reads line `number` of a request stream, without its newline, as a request.
 ///
-/// A line is a request exactly if it is `R` or `W`, a device name, a start below 10^19, and a length of 1 to
+/// A line is a request exactly if it consists of `R` or `W`, a device name, a start below 10^19, and a length of 1 to
 /// [`MOST_SECTORS`] sectors of 512 bytes, with single spaces between them; numbers are decimal without leading
-/// zeros. No line is two different requests.
+/// zeros. No line describes two different requests.
 ///
-/// For any other line, it returns the first of `Form`, `Number` and `Length` that applies.
+/// For any other line, the fault is the first of `Form`, `Number` and `Length` that applies.
 ///
 /// Cost: no allocation, and at most three passes over each field.
 pub fn parse_request<'a>(line: &'a [u8], number: u64) -> Result<Request<'a>, RequestFault>
-    // An accepted line is the request returned.
+    // An accepted line describes the request that is returned.
     ensures accepted { IfOk result (λ request. DescribesRequest line.now (values_of request)) }
     ensures numbered { IfOk result (λ request. request.number ≡ number) }
     ensures read { IfOk result (λ request. request_reading line.now ≡ Ok (values_of request)) }
-    // Every line that is a request is accepted, and it is one request only.
+    // Every line that describes a request is accepted, and describes no other request.
     ensures only { (values : RequestValues) → DescribesRequest line.now values
         → IsOkAnd result (λ request. values_of request ≡ values) }
     ensures unique { (a b : RequestValues) → DescribesRequest line.now a → DescribesRequest line.now b
         → a ≡ b }
-    // A refused line gives the first fault that applies.
+    // The fault of a refused line is the first of `Form`, `Number` and `Length` that applies.
     ensures fault { IfErr result (λ fault. request_reading line.now ≡ Err fault) }
-    // `MOST_SECTORS` as a figure.
+    // The value of `MOST_SECTORS`, for readers of this contract.
     ensures limit { MOST_SECTORS ≡ 1048576 }
 {
     let Some((op, device, rest)) = head(line) else {
@@ -181,7 +182,7 @@ pub fn parse_request<'a>(line: &'a [u8], number: u64) -> Result<Request<'a>, Req
     })
 }
 
-/// The number at the front of a text of at least `FRONT` bytes, and the text after its space.
+/// The number at the front of a text of at least `FRONT` bytes, and the text after the space that follows.
 #[inline(always)]
 fn front_number<'a>(text: &'a [u8]) -> Option<(u64, &'a [u8])>
     requires { FRONT ≤ length text.now }
@@ -197,7 +198,7 @@ fn front_number<'a>(text: &'a [u8]) -> Option<(u64, &'a [u8])>
     }
 }
 
-/// The length at the front of a text of at least `FRONT` bytes, and the offset of the newline after it.
+/// The length at the front of a text of at least `FRONT` bytes, and the offset of the newline that follows.
 #[inline(always)]
 fn last_number(text: &[u8]) -> Option<(u64, usize)>
     requires { FRONT ≤ length text.now }
@@ -214,12 +215,11 @@ fn last_number(text: &[u8]) -> Option<(u64, usize)>
     }
 }
 
-/// Reads the rest of a request, whose operation and device have been read already, at the front of a buffer that
-/// may hold more lines. Returns the request, as line `number` of the stream, and its length in bytes without the
-/// newline.
+/// Reads the request line at the front of `text`, which may contain more lines; the line's operation and device have
+/// been read already. Returns the request, as line `number` of the stream, and the line's length in bytes.
 ///
-/// `None` says nothing about the text: the line is incomplete, or bad, or too close to the end of the buffer to be
-/// read this way. [`parse_request`] then reads the line or finds its fault.
+/// `None` doesn't mean that the line is bad: it may be incomplete, too close to the end of the text, or have a number
+/// of `FRONT` digits or more. [`parse_request`] then reads the line or finds its fault.
 ///
 /// Cost: no allocation, and one pass over the numbers.
 #[inline(always)]
@@ -232,7 +232,7 @@ pub fn front_request<'a>(
 ) -> Option<(Request<'a>, usize)>
     requires text { text.now ≡ op_text op ∷ code " " ∷ (device.now ++ code " " ∷ rest.now) }
     requires named { is_device_name device.now ≡ true }
-    // The text begins with a line that is this request.
+    // The first line of the text describes the request that is returned.
     ensures front { IfSome result (λ front. IsFront text.now (values_of front.0) front.1) }
     ensures numbered { IfSome result (λ front. front.0.number ≡ number) }
     ensures device { IfSome result (λ front. front.0.device.now ≡ device.now) }

@@ -2,9 +2,9 @@
 //! devices.
 //!
 //! A text is written part by part, without allocating; an output that is slow for small writes should
-//! have a buffer in front of it. A line is one part, plus one for each column of a striped line and one for
-//! the newline. A new target needs an arm in `line_head`, and one here only if its text has no greatest
-//! length, like a striped line's.
+//! have a buffer in front of it. A line is written as one part, plus one for each column of a striped line
+//! and one for the newline. A new target needs an arm in `line_head`, and one in `write_columns_of` only if
+//! its text, like a striped line's, has no greatest length.
 
 ghost use Rattle.dm_table.specs.Prelude.{length, map, flat_map, join_with_byte, column_text, body_text, columns_of, DescribesTable, DescribesConcise, ReadsBack, as_table, lines_text, table_text, flag_text, concise_device, concise_text, as_concise, Wrote, code};
 ghost use Rattle.std.specs.Prelude.{◌≡◌, ◌≤◌, ◌∷◌, ◌++◌};
@@ -24,7 +24,7 @@ fn write_columns<W: Output>(writer: &mut W, columns: &[Column]) -> Result<(), Ou
     Ok(())
 }
 
-/// Writes the columns of a target; only a striped one has any.
+/// Writes the columns of a target; only a striped target has columns.
 fn write_columns_of<W: Output>(writer: &mut W, target: &Target) -> Result<(), OutFault>
     ensures { Wrote (W.past writer.old) (W.past writer.new) result
         (flat_map column_text (columns_of target.now)) }
@@ -63,13 +63,13 @@ fn write_lines<W: Output>(writer: &mut W, name: &[u8], lines: &[Line]) -> Result
     Ok(())
 }
 
-/// Writes devices as table text: `NAME: START LEN TYPE ARGS` for each line, in order. Read-only flags are
-/// lost, because table text has none.
+/// Writes devices as table text: `NAME: START LEN TYPE ARGS` for each line, in order. Whether a device is
+/// read-only is lost, because table text has no flag for it.
 ///
 /// At a fault only a prefix of the text has been written, and nothing is retried. Allocates nothing, and
 /// makes a few writes for each line.
 pub fn write_table<W: Output>(devices: &[DeviceSpec], writer: &mut W) -> Result<(), OutFault>
-    // If any table text describes these devices, apart from places and flags, the text written describes them.
+    // If any table text describes these devices, apart from places and flags, then so does the text that is written.
     ensures reads_back { ReadsBack DescribesTable (as_table 1) table_text devices.now }
     ensures wrote { Wrote (W.past writer.old) (W.past writer.new) result (table_text devices.now) }
 {
@@ -91,7 +91,7 @@ fn write_every_line<W: Output>(writer: &mut W, devices: &[DeviceSpec]) -> Result
     Ok(())
 }
 
-/// Writes the bodies of lines, with a comma before each.
+/// Writes the bodies of lines, with a comma before each body.
 fn write_more_bodies<W: Output>(writer: &mut W, lines: &[Line]) -> Result<(), OutFault>
     ensures { Wrote (W.past writer.old) (W.past writer.new) result
         (flat_map (λ line. code "," ∷ body_text line) lines.now) }
@@ -116,7 +116,7 @@ fn write_bodies<W: Output>(writer: &mut W, lines: &[Line]) -> Result<(), OutFaul
     }
 }
 
-/// Writes a device in the concise form, after the text `before`.
+/// Writes the text `before`, and then a device in the concise form.
 fn write_device<W: Output>(
     writer: &mut W,
     before: &[u8],
@@ -141,7 +141,7 @@ fn flag_text(ro: bool) -> &'static [u8]
     }
 }
 
-/// Writes devices in the concise form, with a semicolon before each.
+/// Writes devices in the concise form, with a semicolon before each device.
 fn write_more_devices<W: Output>(writer: &mut W, devices: &[DeviceSpec]) -> Result<(), OutFault>
     ensures { Wrote (W.past writer.old) (W.past writer.new) result
         (flat_map (λ device. code ";" ∷ concise_device device) devices.now) }
@@ -166,13 +166,13 @@ fn write_devices<W: Output>(writer: &mut W, devices: &[DeviceSpec]) -> Result<()
     }
 }
 
-/// Writes devices in the concise form of dmsetup(8), with empty uuids and minor numbers: semicolons between
-/// devices, each `NAME,,,FLAG,` and its lines with commas between them, and a newline at the end.
+/// Writes devices in the concise form of dmsetup(8), with empty uuids and minor numbers: each device is
+/// `NAME,,,FLAG,` and its lines, separated by commas; semicolons separate devices, and a newline ends the text.
 ///
 /// At a fault only a prefix of the text has been written, and nothing is retried. Allocates nothing, and
 /// makes a few writes for each line.
 pub fn write_concise<W: Output>(devices: &[DeviceSpec], writer: &mut W) -> Result<(), OutFault>
-    // If any text in the concise form describes these devices, apart from places, the text written describes them.
+    // If any text in the concise form describes these devices, apart from places, then so does the text written.
     ensures reads_back { ReadsBack DescribesConcise (as_concise 1) concise_text devices.now }
     ensures wrote { Wrote (W.past writer.old) (W.past writer.new) result (concise_text devices.now) }
 {

@@ -1,8 +1,8 @@
-//! Reads a device in the concise form: its label, which is a name, a uuid, a minor number and flags, and
-//! the bodies of its lines, with commas between all of them.
+//! Reads a device in the concise form: a label, which is a name, a uuid, a minor number and flags, and then
+//! the bodies of the device's lines, all separated by commas.
 //!
-//! A device is cut and read once. Its label and each of its bodies may have a fault; the one whose check
-//! runs first is the device's. `line_body` reads the bodies, and knows nothing of labels.
+//! A device is cut and read once. Its label and each of its bodies may have a fault; the device's fault is the
+//! one whose check runs first. `line_body` reads the bodies, and knows nothing about labels.
 
 ghost use Rattle.dm_table.specs.Prelude.{None, OnOk, IfOk, option_to_list, texts, Reads, lacks, is_uuid, is_minor, is_ro, is_flags, without_first_space, body_fields, is_label, has_label_values, has_label_names, line_in, earlier_of, fault_of_body, fault_of_label, bodies_reading, entries_reading, device_reading};
 ghost use Rattle.std.specs.Prelude.{◌≡◌, ◌++◌};
@@ -18,11 +18,11 @@ use memchr::memchr;
 use std::alloc::{AllocError, Global};
 use std::cmp::min;
 
-/// The most lines to allocate for before reading them, since a text may consist of nothing but commas.
+/// For how many lines to allocate at most before the lines are read, since a text may consist of nothing but commas.
 const MOST_RESERVED: usize = 65536;
 
-/// The device that a text describes, as device `number`. The vectors, for its entries and for the fields of a
-/// body, are passed in so that all devices can share them.
+/// The device that a text describes, as device `number`. The vectors for the device's entries and for the fields
+/// of a body are passed in so that all devices can share them.
 pub(crate) fn read_device<'a>(
     alloc: Global,
     entries: &mut Vec<&'a [u8]>,
@@ -36,7 +36,7 @@ pub(crate) fn read_device<'a>(
     read_entries(alloc, fields, lacks(b'\n', text), &*entries, number)
 }
 
-/// The device that entries describe, as device `number`; on_a_line is true if the entries contain no newline.
+/// The device that entries describe, as device `number`; `on_a_line` is true if the entries contain no newline.
 fn read_entries<'a>(
     alloc: Global,
     fields: &mut Vec<&'a [u8]>,
@@ -63,7 +63,7 @@ fn read_entries<'a>(
     })
 }
 
-/// The fault of a device's label, if it has one; on_a_line is true if the entries contain no newline.
+/// The fault of a device's label, if there is one; `on_a_line` is true if the entries contain no newline.
 fn entry_label_fault(on_a_line: bool, entries: &[&[u8]]) -> Option<RowFault>
     ensures { result ≡ fault_of_label on_a_line (texts entries.now) }
 {
@@ -117,7 +117,7 @@ fn lacks(of: u8, text: &[u8]) -> bool
     memchr(of, text).is_none()
 }
 
-/// Whether an entry is a valid uuid: up to 128 bytes that a device's name may contain.
+/// Whether an entry is a valid uuid: at most 128 bytes, possibly none, that a device's name may contain.
 fn is_uuid(text: &[u8]) -> bool
     ensures { result ≡ is_uuid text.now }
 {
@@ -131,21 +131,21 @@ fn is_minor(text: &[u8]) -> bool
     text.is_empty() || number(text).is_some()
 }
 
-/// Whether an entry is a valid list of flags: `ro`, `rw`, or empty.
+/// Whether an entry is a valid flag: `ro`, `rw`, or empty.
 fn is_flags(text: &[u8]) -> bool
     ensures { result ≡ is_flags text.now }
 {
     text.is_empty() || is_ro(text) || text == b"rw".as_slice()
 }
 
-/// Whether flags say that a device is read-only.
+/// Whether an entry is the flag `ro`, which makes a device read-only.
 fn is_ro(text: &[u8]) -> bool
     ensures { result ≡ is_ro text.now }
 {
     text == b"ro".as_slice()
 }
 
-/// Reads the bodies of a device's lines, all at the device's place; `label` is the fault of its label.
+/// Reads the bodies of a device's lines, which get the device's place; `label` is the fault of the device's label.
 fn read_bodies<'a>(
     alloc: Global,
     fields: &mut Vec<&'a [u8]>,
@@ -167,7 +167,7 @@ fn read_bodies<'a>(
     }
 }
 
-/// Adds the line that a body describes to the lines, or returns the fault of the body.
+/// Appends the line that a body describes to the lines, or returns the fault of the body.
 fn add_line<'a>(
     alloc: Global,
     lines: &mut Table,
@@ -191,7 +191,7 @@ fn add_line<'a>(
     }
 }
 
-/// Fields without an empty first one, which a space before a body leaves.
+/// The fields without the empty first field that comes from a space before a body.
 fn without_first_space<'s, 'a>(fields: &'s [&'a [u8]]) -> &'s [&'a [u8]]
     ensures { texts result.now ≡ without_first_space (texts fields.now) }
 {

@@ -1,8 +1,8 @@
-//! Reads tables in the concise form of dmsetup(8): devices separated by semicolons, each with its flags
-//! and its lines.
+//! Reads tables in the concise form of dmsetup(8): devices separated by semicolons, each with a label
+//! and lines.
 //!
-//! Devices are read in order, each once, and their faults are kept until the end, when the fault of the
-//! check that runs first is chosen. `concise_device` reads a single device; a new target type belongs in
+//! Devices are read in order, each once, and their faults are kept until the end, when the fault whose
+//! check runs first is returned. `concise_device` reads a single device; a new target type belongs in
 //! `line_body`.
 
 ghost use Rattle.dm_table.specs.Prelude.{None, Ok, IfOk, OnOk, option_to_list, Source, texts, Answers, unless, Reads, first_noted, no_faults, noted_rows, IsParsed, DescribesConcise, without_newline, parts_of, concise_checks, fault_of_device, device_in, devices_from, parts_reading, entries as entries_of};
@@ -18,23 +18,23 @@ use crate::tables::table::DeviceSpec;
 use crate::words::fields::cut;
 use std::alloc::{AllocError, Global};
 
-/// The devices in a text of the concise form, in order: `NAME,UUID,MINOR,FLAGS` and the lines of the
-/// device, with commas between all of them, and semicolons between devices. The uuid, the minor
+/// The devices in a text of the concise form, in order. Each device is `NAME,UUID,MINOR,FLAGS` and its
+/// lines, with commas between all of them and semicolons between devices. The uuid, the minor
 /// number and the flags may be empty; the first two are checked and then dropped, and a device is
-/// read-only if its flags are `ro`. A line is `START LEN TYPE ARGS`, as in table text, and may have a
-/// space before it and one after it. A newline may end the text. The place of a device, and of its
-/// lines, is its number, from 1. The form is that of dmsetup(8), without its escapes.
+/// read-only if its flags are `ro`. A line is `START LEN TYPE ARGS`, as in table text, with at most one
+/// space before it and one after it. The text may end with a newline. The place of a device, and of its
+/// lines, is the device's number, from 1. The form is that of dmsetup(8), without the escapes.
 ///
-/// Otherwise the fault of the first of these checks that finds any, at its first device; devices are counted
-/// by the semicolons before them: `NotText`, a byte other than 0x20 to 0x7E and a newline; `Syntax`, fewer
-/// than five entries, a space in the first four, a newline before the end, or a line with fewer than
-/// three fields or more than one space between two; `Field`, a number that isn't one, flags other than
-/// `ro` and `rw`, an unknown target type or wrong arguments; `Name`, an invalid name of a device or disk,
-/// or an invalid uuid, which has up to 128 of the bytes of a device's name. Or `Memory`, with number
-/// 0, if an allocation was refused. Takes time linear in the length of the text.
+/// Any other text has the fault of the first of these checks that finds one, at the first device where it
+/// does: `NotText` for a byte other than 0x20 to 0x7E and a newline; `Syntax` for fewer than five entries, a
+/// space in the first four, a newline before the end, or a line with fewer than three fields or more than
+/// one space between two; `Field` for an invalid number, flags other than `ro` and `rw`, an unknown target
+/// type or wrong arguments; `Name` for an invalid name of a device or disk, or an invalid uuid, which is up
+/// to 128 bytes that a device's name may contain. `Memory`, with number 0, may come at any point if an
+/// allocation is refused. Takes time linear in the length of the text.
 pub fn parse_concise(alloc: Global, text: &[u8]) -> Result<Vec<DeviceSpec>, LoadFault>
-    // An accepted text describes the devices returned; a refused one gives the first fault of the first
-    // check that finds any.
+    // An accepted text describes the devices that are returned; for a refused text, the first fault of the
+    // first check that finds any is returned.
     ensures { IsParsed Source (DescribesConcise text.now) (concise_checks text.now) result }
 {
     let text = without_newline(text);
@@ -47,7 +47,7 @@ pub fn parse_concise(alloc: Global, text: &[u8]) -> Result<Vec<DeviceSpec>, Load
     }
 }
 
-/// The text without the newline at its end, if it has one.
+/// The text without the newline at its end, or the text itself if it doesn't end with a newline.
 fn without_newline(text: &[u8]) -> &[u8]
     ensures { result.now ≡ without_newline text.now }
 {
@@ -57,7 +57,7 @@ fn without_newline(text: &[u8]) -> &[u8]
     }
 }
 
-/// The parts of a text between semicolons. An empty text has none.
+/// The parts of a text between semicolons. An empty text has no parts.
 fn parts_of(alloc: Global, text: &[u8]) -> Result<Vec<&[u8]>, AllocError>
     ensures { IfOk result (λ parts. texts parts.items ≡ parts_of text.now) }
 {

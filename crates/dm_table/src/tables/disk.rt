@@ -3,7 +3,7 @@
 use crate::load::place::Place;
 use crate::words::disk_name::DiskName;
 
-/// A disk of `len` sectors of 512 bytes, and its line in the disk list.
+/// A disk of `len` sectors of 512 bytes, and the place of its line in the disk list.
 #[derive(Debug, Drop)]
 pub struct Disk {
     pub name: DiskName,

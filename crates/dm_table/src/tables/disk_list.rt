@@ -1,7 +1,7 @@
 //! Reads disk lists: a line `NAME SECTORS` for each disk.
 //!
 //! Lines are read in order, each once, and their faults are kept until the end, as for table text. A new
-//! column is a field of `Disk` and, in `specs/tables/DiskList.antt`, needs its text in `disk_line`, its form
+//! column needs a field in `Disk` and, in `specs/tables/DiskList.antt`, its text in `disk_line`, its form
 //! in `is_pair`, its value in `disk_in` and, if it is a name, its test in `has_name` and
 //! `disk_reading`.
 
@@ -25,14 +25,14 @@ use std::alloc::{AllocError, Global};
 /// disk is its line, from 1.
 ///
 /// Each check runs over the whole text, and the first that finds any fault reports its first line:
-/// `NotText` for a byte that is neither a newline nor from 0x20 to 0x7E, `Syntax` for a line that isn't
-/// two fields or isn't terminated by a newline, `Field` for a length that isn't a number, `Name` for an
+/// `NotText` for a byte other than 0x20 to 0x7E and a newline, `Syntax` for a line that doesn't consist of
+/// two fields or isn't ended by a newline, `Field` for a length that isn't a valid number, `Name` for an
 /// invalid disk name. `Memory`, with number 0, may come at any point if an allocation is refused.
 ///
 /// Takes time linear in the length of the text.
 pub fn parse_disks(alloc: Global, text: &[u8]) -> Result<Vec<Disk>, LoadFault>
-    // An accepted text describes the disks returned; a refused one gives the first fault of the first check
-    // that finds any.
+    // An accepted text describes the disks that are returned; for a refused text, the first fault of the
+    // first check that finds any is returned.
     ensures { IsParsed Disks (DescribesDisks text.now) (disk_checks text.now) result }
 {
     read_lines(alloc, Part::Disks, text)
@@ -64,8 +64,8 @@ impl FromRows for Disk {
     }
 }
 
-/// The disk that a row describes, as line `number` of the text. Of several faults, `Syntax` comes before `Field`,
-/// and `Field` before `Name`.
+/// The disk that a row describes, as line `number` of the text. Of several faults, `Syntax` takes precedence over
+/// `Field`, and `Field` over `Name`.
 fn read_disk(alloc: Global, row: &[&[u8]], number: u64) -> Result<Disk, RowFault>
     ensures { Reads (λ disk. disk) result (disk_reading number (texts row.now)) }
 {

@@ -8,7 +8,7 @@ use crate::reserved::ReservedText;
 use crate::words::disk_name::DiskName;
 use std::marker::Model;
 
-/// Where a disk lies: in a file, which is all of it or a part; and the place that describes it.
+/// Where a disk's image is: a file and an extent of the file; `at` is the entry's place in the path list.
 #[derive(Debug, Drop)]
 pub struct DiskPath {
     pub disk: DiskName,
@@ -17,7 +17,7 @@ pub struct DiskPath {
     pub at: Place,
 }
 
-/// Sectors of a file in a row: all of it, or a part. A clause sees the first, which is below 2^51, and their number.
+/// Consecutive sectors of a file: all of the file, or a part. A contract sees the first, below 2^51, and their number.
 #[derive(Clone, Copy, Debug, Drop)]
 pub struct FileExtent {
     start: u64,
@@ -38,7 +38,7 @@ impl Model for FileExtent {
 }
 
 impl FileExtent {
-    /// So many sectors, from one on.
+    /// The extent of `len` sectors from sector `start` of a file on.
     pub(crate) fn new(start: u64, len: u64) -> FileExtent
         requires { start < 2 ^ 51 }
         ensures { result ≡ record { start = start; len = len } }
@@ -46,14 +46,14 @@ impl FileExtent {
         FileExtent { start, len }
     }
 
-    /// All of a file.
+    /// The extent that is all of a file.
     pub(crate) fn whole() -> FileExtent
         ensures { result ≡ whole_file }
     {
         FileExtent::new(0, 0x40_0000_0000_0000)
     }
 
-    /// Which sector of the file this one of the extent is, if so many from it on are in the extent.
+    /// The sector of the file that is sector `sector` of the extent, if the extent has `count` sectors from there on.
     pub fn sector(self, sector: u64, count: u64) -> Option<u64>
         requires near { sector ≤ 2 ^ 50 }
         requires few { count ≤ 2 ^ 50 }

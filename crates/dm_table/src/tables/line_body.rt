@@ -1,9 +1,9 @@
 //! Reads the body of a line of a table: a start, a length, and a target with its arguments.
 //!
-//! Each form of a table puts its own label before a body, and passes the body's fields here. They are read
-//! once, directly into a line, up to the first fault. A new target type needs an arm in `read_target`; in
-//! `specs/tables/LineBody.antt`, an arm in `target_row` and one in `other_in`; and in
-//! `specs/tables/Span.antt`, an arm of `target_spans` for the devices that it names.
+//! Each form of a table has its own label before a body, and its reader passes only the body's fields to this
+//! module, which reads them once, directly into a line, up to the first fault. A new target type needs an arm
+//! in `read_target`; in `specs/tables/LineBody.antt`, an arm in `target_row` and one in `other_in`; and in
+//! `specs/tables/Span.antt`, an arm of `target_spans` for the devices that the target names.
 
 ghost use Rattle.dm_table.specs.Base.{[], ℕ, Bool, List, Option, Ok, true, false, length, drop, is_some, nat_lt, MatchOption, list_all};
 ghost use Rattle.dm_table.specs.words.Fields.{texts};
@@ -42,7 +42,7 @@ fn are_filled(fields: &[&[u8]]) -> bool
     true
 }
 
-/// What comes before the target of a line, and the line's place.
+/// The start and the length of a line, which come before its target, and the line's place.
 #[derive(Clone, Copy)]
 pub(crate) struct BodyHead {
     pub start: u64,
@@ -51,7 +51,7 @@ pub(crate) struct BodyHead {
 }
 
 impl BodyHead {
-    /// Appends a line with this target to the lines. The line is built in place.
+    /// Appends a line with this head and target to the lines. The line is built in place.
     #[inline(always)]
     fn push(&self, alloc: Global, lines: &mut Table, target: Target) -> Result<(), RowFault>
         ensures { Reads (λ done. lines.new) result (Ok (lines.old ++ line_of self.now target ∷ [])) }
@@ -69,7 +69,7 @@ impl BodyHead {
     }
 }
 
-/// Appends the line that a body describes to the lines. Of several faults, `Field` comes before `Name`.
+/// Appends the line that a body describes to the lines. Of several faults, `Field` takes precedence over `Name`.
 pub(crate) fn read_body(
     alloc: Global,
     lines: &mut Table,
@@ -90,7 +90,7 @@ pub(crate) fn read_body(
     read_typed(alloc, lines, &BodyHead { start, len, at }, *kind, arguments)
 }
 
-/// Appends a line with a target of this type. The most common targets are built in place.
+/// Appends a line with a target of this type. Lines with the most common targets are built in place.
 fn read_typed(
     alloc: Global,
     lines: &mut Table,
@@ -121,7 +121,7 @@ fn read_typed(
     }
 }
 
-/// Appends the linear line with these arguments.
+/// Appends a line whose target is the linear target with these arguments.
 fn read_linear(
     alloc: Global,
     lines: &mut Table,
@@ -141,7 +141,7 @@ fn read_linear(
     head.push(alloc, lines, Target::Linear { to, offset })
 }
 
-/// The target of one of the rarer types, from its arguments.
+/// The striped, snapshot or snapshot-origin target with these arguments.
 fn read_target(alloc: Global, kind: &[u8], arguments: &[&[u8]]) -> Result<Target, RowFault>
     ensures { Reads (λ target. target) result
         (reading_of has_target_names (other_in kind.now (texts arguments.now))) }
@@ -177,12 +177,12 @@ fn read_striped(alloc: Global, arguments: &[&[u8]]) -> Result<Target, RowFault>
     Arguments::read_all(alloc, others).map(|(chunk, columns)| Target::Striped { chunk, columns })
 }
 
-/// A type that one argument of a target is read into.
+/// A type of value that one argument of a target is read into.
 trait Argument: Drop {
     /// The value that a field describes.
     ghost said: { List ℕ → Option Self };
 
-    /// Whether the value, if it is a name, is a valid one.
+    /// Whether the value is a valid name, or no name at all.
     ghost has_name: { Self → Bool };
 
     /// Reads a field as a value.
@@ -233,7 +233,7 @@ impl Argument for DevRef {
     }
 }
 
-/// A list of types that the arguments of a target are read into, in order.
+/// A list of types of values that the arguments of a target are read into, in order.
 trait Arguments: Drop {
     /// The values that the fields describe.
     ghost said: { List (List ℕ) → Option Self };
@@ -241,7 +241,7 @@ trait Arguments: Drop {
     /// Whether all names among the values are valid.
     ghost has_names: { Self → Bool };
 
-    /// Reads all fields as values. Of several faults, `Field` comes before `Name`.
+    /// Reads all fields as values. Of several faults, `Field` takes precedence over `Name`.
     fn read_all(alloc: Global, fields: &[&[u8]]) -> Result<Self, RowFault>
         ensures { Reads (λ x. x) result (reading_of has_names (said (texts fields.now))) };
 }
@@ -285,7 +285,7 @@ impl Arguments for Columns {
     }
 }
 
-/// Joins the results of reading two parts. If both fail, a `Name` fault of the first gives way to the second's fault.
+/// Joins two results into a pair. If both fail, the fault is the first one unless that is `Name`, and else the second.
 #[inline(always)]
 fn both<A: Drop, B: Drop>(
     first: Result<A, RowFault>,
@@ -306,8 +306,8 @@ fn both<A: Drop, B: Drop>(
     }
 }
 
-/// Whether the number of columns fits the number of other fields: two for each column and one for the chunk. Halving
-/// the number of fields can't overflow, as doubling the count could.
+/// Whether `count` is the number of columns that `others` more fields describe: two for each column and one for the
+/// chunk size. Halving the number of fields can't overflow, as doubling the count could.
 fn is_count(count: &[u8], others: usize) -> bool
     ensures { result ≡ is_count count.now others }
 {
@@ -343,8 +343,8 @@ fn read_columns(alloc: Global, fields: &[&[u8]]) -> Result<Columns, RowFault>
     Ok(Columns::from_vec(columns))
 }
 
-/// The fault of columns whose first one has `fault` and whose others are in `fields`: a bad field among these
-/// comes before a bad name.
+/// The fault of columns, from the fault of the first column and the fields of the others: a `Field` fault of
+/// the others takes precedence over `Name`.
 fn fault_before(fault: RowFault, fields: &[&[u8]]) -> RowFault
     ensures { result ≡ fault_before fault (texts fields.now) }
 {
@@ -354,7 +354,7 @@ fn fault_before(fault: RowFault, fields: &[&[u8]]) -> RowFault
     }
 }
 
-/// Whether fields come in pairs, the second of each a number. One pass.
+/// Whether fields come in pairs, and the second field of each pair is a number. One pass.
 fn are_columns(fields: &[&[u8]]) -> bool
     ensures { result ≡ is_some (columns_in (texts fields.now)) }
 {
@@ -368,7 +368,7 @@ fn are_columns(fields: &[&[u8]]) -> bool
     rest.is_empty()
 }
 
-/// The device or disk that a field names: a device if it begins with `/dev/mapper/`, else a disk.
+/// The device or disk that a field names: a device if the field begins with `/dev/mapper/`, else a disk.
 fn read_dev(alloc: Global, text: &[u8]) -> Result<DevRef, RowFault>
     ensures { Reads (λ dev. dev) result (dev_reading text.now) }
 {
@@ -388,7 +388,7 @@ fn read_dev(alloc: Global, text: &[u8]) -> Result<DevRef, RowFault>
     }
 }
 
-/// The text after `/dev/mapper/`, if a field begins with it and so names a device.
+/// The bytes of a field after `/dev/mapper/`, or `None` if the field doesn't begin with it and so names no device.
 fn device_name_in(text: &[u8]) -> Option<&[u8]>
     ensures { MatchOption result (names_device text.now ≡ false)
         (λ name. (names_device text.now ≡ true) × (name.now ≡ drop (length mapper) text.now)) }

@@ -1,7 +1,7 @@
-//! The parts of a line of a table, as texts that write themselves into a block: a line without its columns,
-//! and one column of a striped line.
+//! The parts of a line of a table, as texts that write themselves into a block: the line without its columns,
+//! and each column of a striped line.
 //!
-//! Each part has a greatest length; a striped line as a whole has none. A new target needs an arm in
+//! Each part has a greatest length, which a striped line as a whole doesn't have. A new target needs an arm in
 //! `put_target`; if its text has no greatest length, it needs arms in `specs/tables/LineHead.antt` too.
 
 ghost use Rattle.dm_table.specs.Prelude.{length, decimal, IsPut, column_text, dev_text, kind_text, body_head, target_head};
@@ -12,7 +12,7 @@ use crate::io::text::Text;
 use crate::tables::table::{Column, DevRef, Line, StoreKind, Target};
 use std::marker::Model;
 
-/// A line with the name and the mark before its body, but without its columns.
+/// The text of a line: a name and a mark, and then the line's body without its columns.
 #[derive(Drop)]
 pub(crate) struct LineHead<'a> {
     name: &'a [u8],
@@ -33,7 +33,7 @@ impl<'a> Model for LineHead<'a> {
 }
 
 impl<'a> LineHead<'a> {
-    /// A line after a name and a mark, such as `: ` or a comma.
+    /// The text of a name, a mark such as `: ` or a comma, and a line's body without its columns.
     #[inline(always)]
     pub(crate) fn new(name: &'a [u8], mark: &'a [u8], line: &'a Line) -> LineHead<'a>
         requires name { length name.now ≤ 127 }
@@ -56,7 +56,7 @@ impl<'a> Text for LineHead<'a> {
     }
 }
 
-/// A column of a striped line, with a space before it.
+/// The text of a column of a striped line, with a space in front.
 #[derive(Drop)]
 pub(crate) struct ColumnText<'a> {
     column: &'a Column,
@@ -91,7 +91,7 @@ impl<'a> Text for ColumnText<'a> {
     }
 }
 
-/// Writes a body without its columns into a block at offset `at`, and returns the offset after it.
+/// Writes a body without its columns into a block at offset `at`, and returns the offset after the text.
 #[inline(always)]
 fn put_head(block: &mut [u8], at: usize, line: &Line) -> usize
     requires room { at + 700 ≤ length block.old }
@@ -104,7 +104,7 @@ fn put_head(block: &mut [u8], at: usize, line: &Line) -> usize
     put_target(block, at, &line.target)
 }
 
-/// Writes a target without its columns into a block at offset `at`, and returns the offset after it.
+/// Writes a target without its columns into a block at offset `at`, and returns the offset after the text.
 #[inline(always)]
 fn put_target(block: &mut [u8], at: usize, target: &Target) -> usize
     requires room { at + 600 ≤ length block.old }
@@ -150,7 +150,7 @@ fn kind_text(kind: StoreKind) -> &'static [u8]
     }
 }
 
-/// Writes up to 9 bytes, and then a number, into a block at offset `at`; returns the offset after them.
+/// Writes up to 9 bytes, and then a number, into a block at offset `at`; returns the offset after the number.
 #[inline(always)]
 fn put_number(block: &mut [u8], at: usize, before: &[u8], number: u64) -> usize
     requires room { at + 30 ≤ length block.old }
@@ -162,7 +162,7 @@ fn put_number(block: &mut [u8], at: usize, before: &[u8], number: u64) -> usize
     put_digits(block, at, number)
 }
 
-/// Writes up to 16 bytes, and then a device or disk, into a block at offset `at`; returns the offset after them.
+/// Writes up to 16 bytes, and then a device or disk, into a block at offset `at`; returns the offset after the text.
 #[inline(always)]
 fn put_dev(block: &mut [u8], at: usize, before: &[u8], dev: &DevRef) -> usize
     requires room { at + 271 ≤ length block.old }
@@ -174,7 +174,7 @@ fn put_dev(block: &mut [u8], at: usize, before: &[u8], dev: &DevRef) -> usize
     put_name(block, at, dev)
 }
 
-/// Writes the text for a device or disk into a block at offset `at`, and returns the offset after it.
+/// Writes the text for a device or disk into a block at offset `at`, and returns the offset after the text.
 #[tactic(auto, using(crate::proofs::words::ByteLemmas::device_name_len, crate::proofs::words::ByteLemmas::disk_name_len))]
 fn put_name(block: &mut [u8], at: usize, dev: &DevRef) -> usize
     requires room { at + 255 ≤ length block.old }

@@ -1,7 +1,7 @@
 //! A vector that a contract sees as a list of values.
 //!
-//! A contract can compare lists, but not where a `Vec` is in memory; so types that own vectors use this one
-//! in place of a `Vec`.
+//! A contract can compare lists, but not where a `Vec` is in memory; so types that own vectors use `Listed`
+//! instead of `Vec`.
 
 ghost use Rattle.dm_table.specs.Prelude.{[], OnOk};
 ghost use Rattle.std.specs.Prelude.{◌≡◌, ◌++◌, ◌∷◌};
@@ -50,7 +50,7 @@ impl<T> Listed<T> {
 }
 
 impl<T: Drop> Listed<T> {
-    /// Appends a value. Only a caller with an allocator can do this.
+    /// Appends a value, and may allocate, which is why the call needs an allocator.
     #[inline(always)]
     pub(crate) fn push(&mut self, alloc: Global, value: T) -> Result<(), AllocError>
         ensures { OnOk result (self.new ≡ self.old ++ value ∷ []) }

@@ -1,7 +1,7 @@
-//! Lists of paths: a line `DISK PATH` for each disk that has an image.
+//! Reads path lists: a line `DISK PATH` for each disk that has an image.
 //!
-//! A path may have spaces, and may end with the part of its file that the disk is. The lines are read as those of a
-//! disk list are, but their text is UTF-8.
+//! A path may contain spaces, and may end by naming the part of the file that is the disk's image. Lines are read as
+//! in a disk list, except that their text is UTF-8.
 
 ghost use Rattle.dm_table.specs.Prelude.{[], IfSome, length, option_map, option_to_list, Paths, Answers, IsParsed, Reads, has_name, is_pair, DescribesPaths, read_paths, after_mark, bytes_in, cut_at, extent_by, extent_of, has_place, is_of_part, is_path_text, name_and_path, path_checks, path_in, path_reading, place_in, sectors_in, texts};
 ghost use Rattle.std.specs.Prelude.{◌≡◌, ◌<◌, ◌≤◌, ◌^◌, ◌++◌, ◌∷◌};
@@ -17,23 +17,23 @@ use crate::words::disk_name::{DiskName, is_disk_name};
 use memchr::{memchr, memrchr};
 use std::alloc::{AllocError, Global};
 
-/// Where the disks of a list of paths lie, in its order.
+/// The entries of a path list, in order: where the image of each disk is.
 ///
 /// The form is this project's own: a line `DISK PATH` for each disk, with one space between and a newline at
-/// the end. The path is the rest of the line, and may have spaces. Where it ends with `?offset=BYTES&length=BYTES`,
-/// each of 1 to 18 digits, the disk is that part of the file that the path before that names.
+/// the end. The path is everything after the first space, and may contain spaces. If a path ends with
+/// `?offset=BYTES&length=BYTES`, with 1 to 18 digits each, the image is that part of the file named before the `?`.
 ///
-/// Each check runs over the whole text, and the first that finds anything gives the fault, at its first line:
-/// `NotText` for bytes that are not UTF-8, or a NUL; `Syntax` for a line without a name, a space and a path, or
-/// that no newline ends; `Field` for `offset=` or `length=` after the last `?` in any other form, for a number that
-/// is no multiple of 512, and for a length of 0; `Name` for a name that no disk can have. `Memory`, of number 0,
-/// comes wherever an allocation was refused. That a disk is named twice, or is none of a stack, is no fault here.
+/// Each check runs over the whole text, and the first that finds any fault reports its first line: `NotText` for
+/// bytes that aren't UTF-8, or a NUL; `Syntax` for a line that isn't a name, a space and a path, or isn't ended by
+/// a newline; `Field` for `offset=` or `length=` after the last `?` in any other form, for a number that isn't a
+/// multiple of 512, and for a length of 0; `Name` for an invalid disk name. `Memory`, with number 0, may come at
+/// any point if an allocation is refused. A list that names a disk twice, or a disk of no stack, is accepted.
 ///
-/// The time is linear in the text.
+/// Takes time linear in the length of the text.
 pub fn parse_paths(alloc: Global, text: &[u8]) -> Result<Vec<DiskPath>, LoadFault>
-    // An accepted text describes the entries returned; a refused one gives the first fault of the first check.
+    // An accepted text describes the entries that are returned; for a refused text, the first fault is returned.
     ensures parsed { IsParsed Paths (DescribesPaths text.now) (path_checks text.now) result }
-    // `IsParsed` determines the answer, except that memory may run out; this clause gives it as a function.
+    // The result as a function of the text, unless memory runs out; this follows from `IsParsed`.
     ensures read { Answers Paths (λ v. v.items) result (read_paths text.now) }
 {
     if let Err(fault) = check_pieces::<PathText>(alloc, Part::Paths, b'\n', text) {
@@ -83,7 +83,7 @@ impl FromRows for DiskPath {
     }
 }
 
-/// What stands before the first byte of a text that is `at`, and what after it.
+/// The bytes of a text before its first byte `at`, and the bytes after; without an `at`, the whole text and no bytes.
 fn cut_at(at: u8, text: &[u8]) -> (&[u8], &[u8])
     ensures { cut_at at text.now ≡ texts (result.0 ∷ result.1 ∷ []) }
 {
@@ -96,8 +96,8 @@ fn cut_at(at: u8, text: &[u8]) -> (&[u8], &[u8])
     }
 }
 
-/// The entry that a row describes, as line `number` of the text. Of several faults, `Syntax` comes before `Field`,
-/// and `Field` before `Name`.
+/// The entry that a row describes, as line `number` of the text. Of several faults, `Syntax` takes precedence over
+/// `Field`, and `Field` over `Name`.
 fn read_path(alloc: Global, row: &[&[u8]], number: u64) -> Result<DiskPath, RowFault>
     ensures { Reads (λ disk. disk) result (path_reading number (texts row.now)) }
 {
@@ -125,7 +125,7 @@ fn read_path(alloc: Global, row: &[&[u8]], number: u64) -> Result<DiskPath, RowF
     })
 }
 
-/// The path of a file, and the sectors of it that a disk has, that a path says.
+/// The file and the extent that a path names, or `None` if the path isn't valid.
 fn place_in(path: &[u8]) -> Option<(&str, FileExtent)>
     ensures { option_map (λ place. (place.0.now, place.1)) result ≡ place_in path.now }
 {
@@ -137,7 +137,7 @@ fn place_in(path: &[u8]) -> Option<(&str, FileExtent)>
     extent_of(path, Some(FileExtent::whole()))
 }
 
-/// A file and an extent of it, if its path is UTF-8.
+/// The path of a file and the extent, or `None` if the path isn't UTF-8 or there is no extent.
 fn extent_of(file: &[u8], extent: Option<FileExtent>) -> Option<(&str, FileExtent)>
     ensures { option_map (λ place. (place.0.now, place.1)) result ≡ extent_of file.now extent }
 {
@@ -150,14 +150,14 @@ fn extent_of(file: &[u8], extent: Option<FileExtent>) -> Option<(&str, FileExten
     }
 }
 
-/// Whether what stands after a `?` is about a part of the file.
+/// Whether the bytes after a `?` try to name a part of the file: they begin with `offset=` or `length=`.
 fn is_of_part(keys: &[u8]) -> bool
     ensures { result ≡ is_of_part keys.now }
 {
     keys.starts_with(b"offset=") || keys.starts_with(b"length=")
 }
 
-/// The extent that `offset=BYTES&length=BYTES` says.
+/// The extent that a text of the form `offset=BYTES&length=BYTES` describes, or `None` for any other text.
 fn extent_in(keys: &[u8]) -> Option<FileExtent>
     ensures { result ≡ extent_by (cut_at 38 keys.now) }
 {
@@ -174,7 +174,7 @@ fn extent_in(keys: &[u8]) -> Option<FileExtent>
     Some(FileExtent::new(start, len))
 }
 
-/// The sectors that a key gives with its bytes.
+/// The number of sectors in a text that is the key, such as `offset=`, and a number of bytes.
 fn sectors_in(key: &[u8], text: &[u8]) -> Option<u64>
     ensures is { result ≡ sectors_in key.now text.now }
     ensures near { IfSome result (λ sectors. sectors < 2 ^ 51) }
@@ -191,7 +191,7 @@ fn sectors_in(key: &[u8], text: &[u8]) -> Option<u64>
     Some(bytes / 512)
 }
 
-/// What stands after the last `?`.
+/// The bytes of a text after its last `?`, or the whole text if there is no `?`.
 fn after_mark(text: &[u8]) -> &[u8]
     ensures is { result.now ≡ after_mark text.now }
     ensures short { length result.now ≤ length text.now }
@@ -202,7 +202,7 @@ fn after_mark(text: &[u8]) -> &[u8]
     }
 }
 
-/// The byte offset that 1 to 18 digits spell.
+/// The number of bytes that 1 to 18 digits spell.
 fn bytes_in(digits: &[u8]) -> Option<u64>
     ensures is { result ≡ bytes_in digits.now }
     ensures near { IfSome result (λ bytes. bytes < 10 ^ 18) }

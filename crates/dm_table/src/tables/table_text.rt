@@ -1,7 +1,7 @@
 //! Reads table text: a line `NAME: START LEN TYPE ARGS` for each line of a table, as in dmsetup(8).
 //!
 //! Lines are read in order, each once, and added to the devices so far; their faults are kept until
-//! the end, when the fault of the check that runs first is chosen. A new target type belongs in
+//! the end, when the fault whose check runs first is returned. A new target type belongs in
 //! `line_body`.
 
 ghost use Rattle.dm_table.specs.Prelude.{Source, IsParsed, Reads, made_of, DescribesTable, is_row, table_checks, row_fields, texts, named_in, named_reading, alone, add_line, add_said};
@@ -18,19 +18,19 @@ use crate::words::device_name::{Name, is_device_name};
 use crate::words::fields::cut_row;
 use std::alloc::{AllocError, Global};
 
-/// The devices in table text, in order. Neighbouring lines with the same name are one device, whose
-/// place is its first line; a line may end with one space; all devices are writable. Starts,
-/// lengths, chunks and offsets are sectors of 512 bytes, below 10^19. The form is that of
-/// dmsetup(8). A striped line says how many columns it has, and may have none.
+/// The devices in table text, in order. Neighbouring lines with the same name form one device, whose
+/// place is its first line. A line may end with one space, and all devices are writable. Starts,
+/// lengths, chunk sizes and offsets are in sectors of 512 bytes, below 10^19. The form is that of
+/// dmsetup(8). A striped line names the number of its columns, which may be 0.
 ///
-/// Otherwise the fault of the first of these checks that finds any, at its first line: `NotText`, a
-/// byte that is neither a newline nor from 0x20 to 0x7E; `Syntax`, fewer than four fields with single
-/// spaces between them, a first field that isn't a name with a colon, or no newline at the end; `Field`,
-/// a number that isn't one, an unknown target type or wrong arguments; `Name`, an invalid name of a device
-/// or disk. Or `Memory`, with number 0, if an allocation was refused. Takes time linear in the length of the text.
+/// Any other text has the fault of the first of these checks that finds one, at the first line where it does:
+/// `NotText` for a byte other than 0x20 to 0x7E and a newline; `Syntax` for fewer than four fields with single
+/// spaces between them, a first field without a colon at its end, or no newline at the end; `Field` for an
+/// invalid number, an unknown target type or wrong arguments; `Name` for an invalid name of a device or disk.
+/// `Memory`, with number 0, comes if an allocation is refused. Takes time linear in the length of the text.
 pub fn parse_table(alloc: Global, text: &[u8]) -> Result<Vec<DeviceSpec>, LoadFault>
-    // An accepted text describes the devices returned; a refused one gives the first fault of the first
-    // check that finds any.
+    // An accepted text describes the devices that are returned; for a refused text, the first fault of the
+    // first check that finds any is returned.
     ensures { IsParsed Source (DescribesTable text.now) (table_checks text.now) result }
 {
     read_lines(alloc, Part::Source, text)
@@ -71,7 +71,7 @@ impl FromRows for DeviceSpec {
     }
 }
 
-/// Reads a body, and adds its line to the last device if that has this name, else to a new device.
+/// Reads a body, and appends its line to the last device if that device has this name, else to a new device.
 fn read_line(
     alloc: Global,
     devices: &mut Vec<DeviceSpec>,

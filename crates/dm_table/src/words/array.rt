@@ -1,5 +1,5 @@
-//! Slices of a known length as arrays, which can be compared, copied or read as a number in an
-//! instruction or two.
+//! Turns slices of a known length into arrays, which can be compared, copied or read as a number in
+//! an instruction or two.
 
 ghost use Rattle.dm_table.specs.Prelude.{length};
 ghost use Rattle.std.specs.Prelude.{◌≡◌};

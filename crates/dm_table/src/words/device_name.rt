@@ -35,7 +35,7 @@ pub(crate) fn is_device_name(bytes: &[u8]) -> bool
 }
 
 /// The length of the device name at the start of a text, up to the first byte that a device name may not
-/// contain, if it is a valid name. One pass over the name.
+/// contain; `None` if the bytes before that one aren't a valid name. One pass over the name.
 pub(crate) fn leading_name(text: &[u8]) -> Option<usize>
     ensures len { IfSome result (λ len. len ≡ prefix_len is_device_byte text.now) }
     ensures name { IfSome result (λ len. IsTrue (is_device_name (take len text.now))) }

@@ -1,6 +1,6 @@
 //! Valid names of disks.
 //!
-//! The rule is this project's own, and excludes disk names that could be taken for a device; change it in
+//! The rule is this project's own, and excludes disk names that could be taken for a device's; change it in
 //! `specs/words/Name.antt` first.
 
 ghost use Rattle.dm_table.specs.Prelude.{list_all, is_disk_byte, is_disk_name, names_device, ascii-disk_name};

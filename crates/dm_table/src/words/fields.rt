@@ -1,9 +1,9 @@
 //! Cuts texts at a byte: lines into fields at spaces, the concise form into devices at semicolons.
 //!
-//! A text is cut once, and all checks use its parts, which borrow from the text. A form that needs another
+//! A text is cut once, and all checks use the parts, which borrow from the text. A form of text with another
 //! separator calls `cut` too.
 //!
-//! For speed alone, short texts are cut by `marks`; `cut_searched` would do for all.
+//! For speed alone, `marks` finds the separators of short texts; `cut_searched` could cut texts of any length.
 
 ghost use Rattle.dm_table.specs.Prelude.{IfOk, OnOk, length, ends_empty, parts_at, row_fields, texts, marks_of};
 ghost use Rattle.std.specs.Prelude.{◌≡◌, ◌++◌, ◌≤◌};
@@ -12,7 +12,7 @@ use crate::words::marks::marks;
 use memchr::memchr;
 use std::alloc::{AllocError, Global};
 
-/// The parts of a text between the bytes equal to `at`. One pass over the text.
+/// The parts of a text that bytes equal to `at` separate. One pass over the text.
 pub(crate) fn cut<'a>(alloc: Global, at: u8, text: &'a [u8]) -> Result<Vec<&'a [u8]>, AllocError>
     ensures { IfOk result (λ v. texts v.items ≡ parts_at at text.now) }
 {
@@ -30,7 +30,7 @@ pub(crate) fn cut_into<'a>(
     ensures { OnOk result (texts parts.new.items ≡ parts_at at text.now) }
 {
     parts.clear();
-    // Searching a short text for each separator would cost more than handling the part does.
+    // In a short text, a search for each separator would cost more than handling the parts.
     match marks(at, text) {
         Some(marks) => cut_marked(parts, at, text, marks),
         None => cut_searched(parts, at, text),
@@ -75,8 +75,8 @@ fn cut_searched<'a>(parts: &mut Vec<&'a [u8]>, at: u8, text: &'a [u8]) -> Result
     Ok(())
 }
 
-/// Replaces the contents of `fields` with the fields of a line, without the empty last one that a space at
-/// the end of the line leaves. One pass.
+/// Replaces the contents of `fields` with the fields of a line, without the empty last field that comes from
+/// a space at the end of the line. One pass.
 pub(crate) fn cut_row<'a>(fields: &mut Vec<&'a [u8]>, line: &'a [u8]) -> Result<(), AllocError>
     ensures { OnOk result (texts fields.new.items ≡ row_fields line.now) }
 {
@@ -87,7 +87,7 @@ pub(crate) fn cut_row<'a>(fields: &mut Vec<&'a [u8]>, line: &'a [u8]) -> Result<
     Ok(())
 }
 
-/// Whether the last field is empty.
+/// Whether there is a last field and it is empty.
 fn ends_empty(fields: &[&[u8]]) -> bool
     ensures { result ≡ ends_empty (texts fields.now) }
 {

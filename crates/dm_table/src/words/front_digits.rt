@@ -1,10 +1,10 @@
-//! Reads a number at the front of a longer text: its digits are counted and converted together.
+//! Reads a number at the front of a longer text: all its digits are counted and converted at once.
 //!
-//! The end of the number isn't found digit by digit, since a processor predicts few of those jumps right.
-//! Sixteen bytes are read at once; a number of sixteen digits or more is left to `number`.
+//! The end of the number isn't searched digit by digit, because a processor would predict few of the jumps
+//! right. Sixteen bytes are read at once; a number of sixteen digits or more is left to `number`.
 //!
-//! For speed alone; its gain is a part of *requests read where they stand* in RESULTS.md. The caller makes sure that
-//! sixteen bytes are there, whatever they are. Change it only if you measure small requests before and after.
+//! This module is for speed alone; its gain is a part of *requests read where they stand* in RESULTS.md. The text
+//! must have sixteen bytes, whatever they are. Change this module only if you measure small requests.
 
 ghost use Rattle.dm_table.specs.Prelude.{IfSome, Some, get_or, length, map, take, number_from_digits, number_of};
 ghost use Rattle.dm_table.specs.declared.words.front_digits.TheConstants.{FRONT};
@@ -17,8 +17,8 @@ use std::simd::prelude::*;
 /// How many bytes are read at once.
 pub(crate) const FRONT: usize = 16;
 
-/// The number that the digits at the front of a text spell, and how many digits it has. `None` may also mean a
-/// number of sixteen digits or more, which this function doesn't read.
+/// The number that the digits at the front of a text spell, and how many digits the number has. `None` if there
+/// is no number, or if it has sixteen digits or more.
 #[inline(always)]
 pub(crate) fn read_front(text: &[u8]) -> Option<(u64, usize)>
     requires { FRONT ≤ length text.now }
@@ -34,7 +34,7 @@ pub(crate) fn read_front(text: &[u8]) -> Option<(u64, usize)>
     Some((number_ahead(&digits.to_array(), len), len))
 }
 
-/// Each byte minus the byte of the digit zero, modulo 256.
+/// Each byte of a text minus the character `0`, modulo 256: below 10 exactly for digits.
 #[inline(always)]
 fn less_zero(text: &[u8; FRONT]) -> u8x16
     ensures { result ≡ map (λ byte. (byte + 208) % 256) text.now }
@@ -42,7 +42,7 @@ fn less_zero(text: &[u8; FRONT]) -> u8x16
     u8x16::from_array(*text) - u8x16::splat(b'0')
 }
 
-/// How many of the first bytes are below 10, or `None` if all are.
+/// How many bytes come before the first byte that is 10 or more, or `None` if all bytes are below 10.
 #[inline(always)]
 fn digits_ahead(digits: u8x16) -> Option<usize>
     requires { length digits ≡ 16 }

@@ -1,9 +1,9 @@
 //! Finds all positions of a byte in a short text at once, as bits of a number: bit 0 is the first byte.
 //!
-//! A text is read as two blocks, at its front and at its end, which may overlap; nothing past its end is read.
+//! A text is read as two blocks, one at its front and one at its end, which may overlap, and never past its end.
 //!
-//! For speed alone: RESULTS.md has its gain as *lines made in place, fields found together*. It works for texts of
-//! 8 to 64 bytes, one bit for each. Change it only if you measure loads of long tables before and after.
+//! This module is for speed alone: RESULTS.md has its gain as *lines made in place, fields found together*. It is for
+//! texts of 8 to 64 bytes, one bit for each byte. Change it only if you measure loads of long tables.
 
 ghost use Rattle.dm_table.specs.Prelude.{Bool, List, IfNone, IfSome, drop, length, nat_lt, take, true, marks_of};
 ghost use Rattle.std.specs.Prelude.{◌≡◌, ◌-◌, ◌*◌, ◌<◌, ◌≤◌, ◌||◌};
@@ -12,7 +12,7 @@ ghost use lib.Lanes.{mask_l};
 use crate::words::array::as_array;
 use std::simd::prelude::*;
 
-/// The positions of the byte `of` in a text of 8 to 64 bytes; `None` for other lengths.
+/// The positions of the byte `of` in a text of 8 to 64 bytes, one bit per byte; `None` for other lengths.
 #[inline(always)]
 pub(crate) fn marks(of: u8, text: &[u8]) -> Option<u64>
     ensures marks { IfSome result (λ marks. marks ≡ marks_of of text.now) }
@@ -34,7 +34,7 @@ pub(crate) fn marks(of: u8, text: &[u8]) -> Option<u64>
     }
 }
 
-/// The marks of a text of `len` bytes, from the marks of its first `HALF` bytes and of its last `HALF` bytes.
+/// The positions of a byte in a text of `len` bytes, from those in its first and in its last `HALF` bytes.
 #[inline(always)]
 fn joined<const HALF: usize>(first: u64, last: u64, len: usize) -> u64
     requires half { HALF ≤ 32 }
@@ -46,7 +46,7 @@ fn joined<const HALF: usize>(first: u64, last: u64, len: usize) -> u64
     ((last >> (2 * HALF - len)) << HALF) | first
 }
 
-/// The positions of the byte `of` in a text of `LEN` bytes.
+/// The positions of the byte `of` in a text of `LEN` bytes, one bit per byte.
 #[inline(always)]
 fn marks_of<const LEN: usize>(of: u8, text: &[u8]) -> u64
     requires length { length text.now ≡ LEN }

@@ -1,8 +1,8 @@
 //! Names: texts that have been checked once.
 //!
-//! A value of this type is always a valid name, so no code above checks it again. There is one type
-//! for all names, and one rule for each kind of name: for devices in `device_name`, for disks in
-//! `disk_name`.
+//! A `CheckedName` is always a valid name, so no code above checks it again. There is one type for all
+//! names, and one rule for each kind of name: the rule for devices is in `device_name`, and the rule for
+//! disks in `disk_name`.
 
 ghost use Rattle.dm_table.specs.Base.{Some, Err, true, false, IsTrue, IfOk, OnOk, List, ℕ, Bool, IsAscii, string_bytes};
 ghost use Rattle.std.specs.Prelude.{◌≡◌, ◌↔◌};
@@ -37,7 +37,7 @@ pub trait NameRule {
     ghost ascii: { (text : List ℕ) → IsTrue (is_name text) → IsAscii text };
 }
 
-/// A valid name by the rule `R`, in memory of its own.
+/// A text that is a valid name by the rule `R`, in an allocation of its own.
 #[derive(Debug, Drop)]
 pub struct CheckedName<R: NameRule> {
     text: ReservedText,
@@ -58,8 +58,8 @@ impl<R: NameRule> Model for CheckedName<R> {
 impl<R: NameRule> CheckedName<R> {
     /// Makes a name of this kind from a text, which is copied.
     ///
-    /// Cost: reads the text twice, and allocates once if it is a valid name. Returns `Form` if it isn't one,
-    /// and `Memory` if the allocation was refused.
+    /// Cost: reads the text twice, and allocates once if the text is a valid name. Returns `Form` if it isn't
+    /// valid, and `Memory` if the allocation was refused.
     pub fn new(alloc: Global, text: &str) -> Result<CheckedName<R>, CheckFault>
         ensures kept { IfOk result (λ name. name ≡ text.now) }
         ensures form { (result ≡ Err CheckFault.Form) ↔ (R.is_name text.now ≡ false) }
@@ -88,7 +88,7 @@ impl<R: NameRule> CheckedName<R> {
         })
     }
 
-    /// A copy of the name, without checking it again.
+    /// A copy of the name, which isn't checked again.
     ///
     /// Cost: reads the text once, and allocates once. Fails only if the allocation was refused.
     pub fn copy(&self, alloc: Global) -> Result<CheckedName<R>, AllocError>
@@ -127,6 +127,6 @@ pub(crate) fn ascii_str(bytes: &[u8]) -> &str
     requires { IsAscii bytes.now }
     ensures { result.now ≡ bytes.now }
 {
-    // ASCII is UTF-8, as the proof shows, so the bytes needn't be checked.
+    // The bytes needn't be checked, because ASCII is UTF-8, as the proof shows.
     unsafe { str::from_utf8_unchecked(bytes) }
 }

@@ -1,6 +1,6 @@
 //! Numbers in texts: `0`, or a digit 1 to 9 and at most 18 digits after it.
 //!
-//! Tables and requests share this one form, so that a number is written back byte for byte as it was read.
+//! Tables and requests share this one form of numbers, so that a number is written back byte for byte as it was read.
 //! To accept more digits, change `specs/words/Number.antt`, and make sure that the value still fits a `u64`.
 
 ghost use Rattle.dm_table.specs.Prelude.{is_some, length, Some, None, IfSome, IfNone, IsTrue, take, prefix_len, is_ascii_digit, number_of, number_in};
@@ -19,7 +19,7 @@ pub(crate) fn number(text: &[u8]) -> Option<u64>
 }
 
 /// The number that the digits at the front of a text spell, and how many digits there are; `None` if they
-/// spell none. The number is below 10^19, and so fits 64 bits.
+/// don't spell a number. The number is below 10^19, and so fits 64 bits.
 #[inline(always)]
 pub(crate) fn leading(text: &[u8]) -> Option<(u64, usize)>
     ensures len { IfSome result (λ read. read.1 ≡ prefix_len is_ascii_digit text.now) }
@@ -41,7 +41,7 @@ pub(crate) fn leading(text: &[u8]) -> Option<(u64, usize)>
     Some((value, len))
 }
 
-/// The number in a field that is known to be a number.
+/// The number that a field spells; the field must be known to spell one.
 pub(crate) fn number_in(field: &[u8]) -> u64
     requires { IsTrue (is_some (number_of field.now)) }
     ensures { result ≡ number_in field.now }

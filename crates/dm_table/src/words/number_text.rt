@@ -1,7 +1,7 @@
 //! Texts of a fixed capacity, built without allocating.
 //!
-//! Lines and messages have a greatest length, so a buffer on the stack holds any of them. Callers prove
-//! that there is room: no text is ever cut off.
+//! Lines and messages have a greatest length, so a buffer on the stack can hold any of them. Callers prove
+//! that there is room, so that no text is ever cut off.
 
 ghost use Rattle.dm_table.specs.Prelude.{length, decimal};
 ghost use Rattle.std.specs.Prelude.{◌≡◌, ◌++◌, ◌+◌, ◌≤◌};
@@ -22,7 +22,7 @@ pub fn append<const CAPACITY: usize>(text: &mut ArrayVec<u8, CAPACITY>, bytes: &
     };
 }
 
-/// Appends a number in decimal to a text, which must have room for any number.
+/// Appends a number in decimal to a text, which must have room for the longest number.
 pub fn append_number<const CAPACITY: usize>(text: &mut ArrayVec<u8, CAPACITY>, number: u64)
     requires { length text.old.items + MOST_DIGITS ≤ CAPACITY }
     ensures text { text.new.items ≡ text.old.items ++ decimal number }

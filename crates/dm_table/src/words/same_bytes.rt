@@ -1,11 +1,11 @@
 //! Compares short texts without a loop.
 //!
-//! Texts of unknown length are compared in a loop, texts of a known length in an instruction or two. Most
-//! names are short enough that their first and last bytes, which may overlap, cover all of the name.
+//! Texts of unknown length are compared in a loop, but texts of a known length in an instruction or two. Most
+//! names are so short that their first and their last bytes, which may overlap, cover the whole name.
 //!
-//! For speed alone: RESULTS.md has its gain as *short names compared at once*. It relies on the compiler to
-//! compare arrays of a known length in an instruction or two. Change it only if you measure small requests and
-//! loads by names before and after.
+//! This module is for speed alone: RESULTS.md has its gain as *short names compared at once*. It relies on the
+//! compiler to compare arrays of a known length in an instruction or two. Change it only if you measure small
+//! requests and loads by names before and after.
 
 ghost use Rattle.dm_table.specs.Prelude.{length, OnTrue, OnFalse};
 ghost use Rattle.std.specs.Prelude.{◌≡◌, ◌≢◌, ◌*◌, ◌≤◌};
@@ -39,8 +39,7 @@ pub fn are_same(left: &[u8], right: &[u8]) -> bool
 }
 
 /// Whether two texts of equal length are equal, by comparing their first and their last `LEN` bytes, which
-/// together cover all of each text. Both comparisons always run, since a jump
-/// would cost more.
+/// together cover all of each text. Both comparisons always run, because a jump would cost more.
 #[inline(always)]
 fn ends_same<const LEN: usize>(left: &[u8], right: &[u8]) -> bool
     requires sizes { length left.now ≡ length right.now }

@@ -1,5 +1,5 @@
--- A tree's code: a flat list from which the tree can be recovered, with a mark at the end of each section. Only proofs
--- that two trees are the same or differ use it.
+-- A tree's code: a flat list from which the tree can be recovered, with a mark at the end of each section. The code is
+-- used only by proofs that two trees are equal or differ.
 use Rattle.lvm_text.specs.Base.{ℕ, List, [], map, refl, append_assoc, ap, sym, ◌∙◌, inl, inr, append-nil}
 use Rattle.std.specs.Coded.{Coded, code_by, coded×, coded⊎, coded_ℕ, coded_list}
 use Rattle.std.specs.Prelude.{◌≡◌, ◌⊎◌, ◌∷◌, ◌++◌}
@@ -10,7 +10,7 @@ use Rattle.lvm_text.specs.Tree.{Scalar, Int, Text, Values, Nothing, Section, Sin
 abbrev pub Flat : Type 0
 Flat = ℕ ⊎ List ℕ
 
--- what a key holds, in a tree's code: a section that begins here, a scalar, or a list of scalars
+-- what a key holds, in a tree's code: a section, whose values come next in the code, a scalar, or a list of scalars
 abbrev pub Held : Type 0
 Held = Unit {0} ⊎ (Flat ⊎ List Flat)
 
@@ -18,39 +18,39 @@ Held = Unit {0} ⊎ (Flat ⊎ List Flat)
 abbrev pub Item : Type 0
 Item = Unit {0} ⊎ ((List ℕ × ℕ) × Held)
 
--- the form of a scalar in a tree's code
+-- a scalar as it occurs in a tree's code
 abbrev pub flat_scalar : Scalar → Flat
 flat_scalar (Int n) = inl n
 flat_scalar (Text t) = inr t
 
--- the scalar, from its form in a tree's code
+-- the scalar that a `Flat` in a tree's code was made from
 abbrev pub scalar_back : Flat → Scalar
 scalar_back (inl n) = Int n
 scalar_back (inr t) = Text t
 
--- the form of values in a tree's code: a flat list
+-- the values of a section as a flat list, as they occur in a tree's code
 abbrev pub flat_values : Values → List Item
 flat_values Nothing = []
 flat_values (Section k n inner rest) = inr ((k, n), inl tt) ∷ (flat_values inner ++ inl tt ∷ flat_values rest)
 flat_values (Single k n s rest) = inr ((k, n), inr (inl (flat_scalar s))) ∷ flat_values rest
 flat_values (Several k n ss rest) = inr ((k, n), inr (inr (map flat_scalar ss))) ∷ flat_values rest
 
--- the values read so far from a tree's code, and the values after the end of each section that is still open
+-- the state while a tree's code is read from its end: the values read so far, and, for each open section, the values after it
 abbrev pub Pile : Type 0
 Pile = Values × List Values
 
--- a section, made of the values read last and, as values after it, those on top of the pile
+-- the state once the key of a section has been read: the section holds `inner`, and the values on top of the pile follow it
 abbrev pub entered : List ℕ → ℕ → Values → List Values → Pile
 entered k n inner [] = (Nothing, [])
 entered k n inner (rest ∷ more) = (Section k n inner rest, more)
 
--- a key and what it holds, put in front of the values read so far
+-- the state once a key has been read: the key and what it holds come in front of the values read so far
 abbrev pub held : List ℕ → ℕ → Held → Pile → Pile
 held k n (inl u) pile = entered k n pile.0 pile.1
 held k n (inr (inl s)) pile = (Single k n (scalar_back s) pile.0, pile.1)
 held k n (inr (inr ss)) pile = (Several k n (map scalar_back ss) pile.0, pile.1)
 
--- the values in a tree's code, read from its end, with those after the end of each section that is still open
+-- the state after a tree's code has been read from its end to its front
 abbrev pub pile_of : List Item → Pile
 pile_of [] = (Nothing, [])
 pile_of (inl u ∷ is) = (Nothing, (pile_of is).0 ∷ (pile_of is).1)
@@ -73,23 +73,23 @@ pile_is (Section k n inner rest) is more e =
 pile_is (Single k n s rest) is more e = rw (pile_is rest is more e, scalar_is s) refl
 pile_is (Several k n ss rest) is more e = rw (pile_is rest is more e, scalars_are ss) refl
 
--- the values, from their form in a tree's code
+-- the values that a tree's code was made from
 abbrev pub values_back : List Item → Values
 values_back is = (pile_of is).0
 
 pub values_back-flat_values : (v : Values) → values_back (flat_values v) ≡ v
 values_back-flat_values v = ap values_back (sym (append-nil (flat_values v))) ∙ ap (λ (p : Pile). p.0) (pile_is v [] [] refl)
 
--- a code for scalars, so that they can be told apart
+-- a code for scalars, by which equal scalars can be told from different ones
 abbrev coded_flat : Coded Flat
 coded_flat = coded⊎ coded_ℕ (coded_list coded_ℕ)
 
--- a code for values, by their form in a tree's code
+-- a code for values, made from their flat list
 abbrev pub values_code : Coded Values
 values_code =
     code_by (List Item) (coded_list (coded⊎ coded_unit (coded× (coded× (coded_list coded_ℕ) coded_ℕ) (coded⊎ coded_unit (coded⊎ coded_flat (coded_list coded_flat))))))
     flat_values values_back values_back-flat_values
 
--- a code for trees, by their lines and values
+-- a code for trees, made from a tree's line and values
 abbrev pub tree_code : Coded Tree
 tree_code = code_by (ℕ × Values) (coded× coded_ℕ values_code) (λ t. (t.line, t.values)) (λ p. record { line = p.0; values = p.1 }) (λ _. refl)
