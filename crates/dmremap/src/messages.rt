@@ -188,12 +188,12 @@ dmremap: disks: field at NUMBER
   that isn't a number, or FLAGS other than `ro` and `rw`. Delete devices with
   other targets, list them in DISKS with their lengths, and name them without
   /dev/mapper/: answers then end at them.
-  In metadata: a field that the section at that line lacks, a value of the wrong
-  kind, a 0 where more is needed, a number of 2^63 or more, a second section at
-  the top, or a segment of an unknown type (raid, thin and others).
-  `dmremap-tools lvm2-text` makes a copy without such volumes and what lies on
-  them. If the file is empty, see why the command that wrote it failed. If a
-  snapshot is being merged, save the metadata again after that.
+  In metadata: an empty file, as of a command that failed; a field that the
+  section at that line lacks, a value of the wrong kind, a 0 where more is
+  needed, a number of 2^63 or more, a second section at the top, or a segment of
+  an unknown type (raid, thin and others). `dmremap-tools lvm2-text` makes a
+  copy without such volumes and what lies on them. If a snapshot is being
+  merged, save the metadata again after that.
 ";
 
 const PATHS_FIELD: &str = "\
