@@ -165,8 +165,8 @@ pub(crate) const CHECK_NOTES: &str = "\
 FILE and DISKS are those of `dmremap map`. Four lines are printed: `devices N`,
 `disks N`, `depth N`, and `tidy` or `clash LOWER SECTOR FIRST SECOND`. A clash
 means that the devices FIRST and SECOND both use this sector of the disk or
-device LOWER, and that at least one of them writes it. An empty FILE is tidy,
-too: look at `devices`.
+device LOWER, and that at least one of them writes it. An empty table is
+tidy, too: look at `devices`.
 
 Exit status
   0  the check was printed, also one with a clash
