@@ -87,6 +87,7 @@ Lines
                                   the part of it that the disk is
             The run starts from what the stores of snapshots of the kinds P
             and K hold there. Without --paths, every snapshot counts as fresh.
+            Only `images` finds out whether PATHS has the right images.
 DEV, ORIGIN and STORE are each a disk, or /dev/mapper/NAME for a device of FILE.
 KIND is P, N or K. A request has 1 to 1048576 sectors.
 
@@ -164,7 +165,8 @@ pub(crate) const CHECK_NOTES: &str = "\
 FILE and DISKS are those of `dmremap map`. Four lines are printed: `devices N`,
 `disks N`, `depth N`, and `tidy` or `clash LOWER SECTOR FIRST SECOND`. A clash
 means that the devices FIRST and SECOND both use this sector of the disk or
-device LOWER, and that at least one of them writes it.
+device LOWER, and that at least one of them writes it. An empty table is
+tidy, too: look at `devices`.
 
 Exit status
   0  the check was printed, also one with a clash
@@ -212,7 +214,8 @@ the stores of snapshots have them there, and go to the standard output. Sectors
 that read as zeros are written as zeros.
 
 `dmremap read images` takes a list like PATHS for FILE, and no --paths. All
-other formats need --paths.
+other formats need --paths, and don't compare labels: a whole disk in place of
+its partition, or two disks swapped, may give wrong bytes without a message.
 
 The first sector that can't be read ends it: all those before it were written.
   dmremap: device: error at SECTOR    its tables make it fail, or its snapshot

@@ -109,13 +109,16 @@ dmremap: disk NAME: array
   The disk is a member of an array, or was an array by its metadata, which lists
   /dev/md... as its device. Give the array; or if this disk is one leg of a
   mirror, give its data, and name it in PATHS as the metadata names the array:
-  the answers are sectors of the array then.
+  the answers are sectors of the array then, and nothing checks that the leg is
+  whole and current.
 ";
 
 const CHUNK: &str = "\
 dmremap: store NAME: chunk
   The table has another chunk size than the store. A kernel uses the store's:
-  write that into the table, unless the machine printed this table.
+  write that into the table, unless the machine printed this table. Bytes 12 to
+  15 of the store are its chunk size in sectors, the lowest byte first;
+  `od -A n -t u1 -j 12 -N 4` prints them of a file that has only the store.
 ";
 
 const CYCLE: &str = "\
@@ -186,11 +189,12 @@ dmremap: disks: field at NUMBER
   that isn't a number, or FLAGS other than `ro` and `rw`. Delete devices with
   other targets, list them in DISKS with their lengths, and name them without
   /dev/mapper/: answers then end at them.
-  In metadata: a field that the section at that line lacks, a value of the wrong
-  kind, a 0 where more is needed, a number of 2^63 or more, a second section at
-  the top, or a segment of an unknown type (raid, thin and others).
-  `dmremap-tools lvm2-text` makes a copy without such volumes and what lies on
-  them. If a snapshot is being merged, save the metadata again after that.
+  In metadata: an empty file, as of a command that failed; a field that the
+  section at that line lacks, a value of the wrong kind, a 0 where more is
+  needed, a number of 2^63 or more, a second section at the top, or a segment of
+  an unknown type (raid, thin and others). `dmremap-tools lvm2-text` makes a
+  copy without such volumes and what lies on them. If a snapshot is being
+  merged, save the metadata again after that.
 ";
 
 const PATHS_FIELD: &str = "\
@@ -391,7 +395,8 @@ dmremap: disk NAME: partitions
 const SOURCE_RANGE: &str = "\
 dmremap: source: range at NUMBER
   The line goes past the end of what it names. Compare its offset and length
-  with the length of that disk or device.
+  with the length of that disk or device. All are in sectors of 512 bytes:
+  divide bytes by 512.
 ";
 
 const STORE_RANGE: &str = "\
@@ -424,21 +429,24 @@ dmremap: paths: read
 
 const DISK_READ: &str = "\
 dmremap: disk NAME: read
-  A sector of its head can't be read, or the image ends before it. Check that
-  the image is whole, and that you may read it.
+  The image isn't there, is a folder, can't be read, or ends within its head.
+  Check that it is whole, and that you may read it. Its path is all that follows
+  the first space of its line in PATHS, taken literally: write no `~`, quotes,
+  second space or carriage return.
 ";
 
 const STORE_READ: &str = "\
 dmremap: store NAME: read
   An image of a disk of this store can't be opened or read, or ends too early.
-  Check that the image is whole, and that you may read it.
+  Check that the image is whole, and that you may read it; of its path, see
+  `disk: read`.
 ";
 
 const DEVICE_READ: &str = "\
 dmremap: device: read at SECTOR
-  The image of its disk can't be opened or read there, or ends before it. Copy
-  the disk with a tool that tries bad sectors again, such as `ddrescue`, or read
-  on after it with `--from`.
+  The image of its disk can't be opened or read there, or ends before it. If its
+  path is wrong, see `disk: read`. Copy the disk with a tool that tries bad
+  sectors again, such as `ddrescue`, or read on after it with `--from`.
 ";
 
 const BEFORE_READ: &str = "\
@@ -461,7 +469,8 @@ dmremap: source: snapshot at NUMBER
 const SPLIT: &str = "\
 dmremap: name: split
   No group and volume give that name: perhaps the device isn't LVM's. Count the
-  hyphens: each hyphen of a part is doubled.
+  hyphens: each hyphen of a part is doubled. Give the name without /dev/mapper/;
+  `dmremap name` VG LV makes it of VG/LV.
 ";
 
 const STORE: &str = "\
@@ -491,9 +500,10 @@ dmremap: disks: syntax at NUMBER
   has four commas before its first line, no semicolon follows the last device,
   and only the end may have a newline. In metadata, a bracket, comma, string or
   key is missing or superfluous, or a number has a sign or a decimal point, as
-  in `read_ahead = -1`. `dmremap-tools lvm2-text` makes a copy without such
-  numbers. If NUMBER is the number of lines plus one, the end of the text is
-  missing.
+  in `read_ahead = -1`. Or lines end with carriage returns, or the file begins
+  with a byte-order mark. `dmremap-tools lvm2-text` makes a copy without such
+  numbers and bytes. If NUMBER is the number of lines plus one, the end of the
+  text is missing.
 ";
 
 const PATHS_SYNTAX: &str = "\
@@ -515,7 +525,8 @@ dmremap: disks: text at NUMBER
 const PATHS_TEXT: &str = "\
 dmremap: paths: text at LINE
   The line isn't UTF-8, or has a NUL, as an image has that was given for PATHS.
-  Rename the image, or make a link to it.
+  Give a list of lines NAME PATH, not an image. If a path isn't UTF-8, rename
+  the image, or make a link to it.
 ";
 
 const DISK_TEXT: &str = "\
@@ -529,7 +540,8 @@ dmremap: disks: twice at NUMBER
   A device, a disk or a key of the metadata occurs twice. In a table, keep the
   lines of a device together, or rename one of two devices. In other texts,
   delete one of the two. For metadata, `dmremap-tools lvm2-text` makes a copy
-  with the key that lvm2 uses.
+  with the key that lvm2 uses. With `images`, the text may give a name of PATHS
+  to a disk that PATHS lacks: write another name there.
 ";
 
 const PATHS_TWICE: &str = "\

@@ -152,6 +152,11 @@ def test_stores(tally, explain, program):
     got = explain.run([*words, "--paths", "paths"])
     why = b"the header of vg0-snap's store says that it is invalid: it was full once, so all of the snapshot fails\n"
     tally.holds("a store whose header says that it is invalid", got.status == 0 and got.out.count(why) == 2 and b"no place" not in got.out, "status %s, %r, %r" % (got.status, got.err, got.out))
+    program.file("explained/s.table", "s: 0 2048 snapshot base cow P 16\n")
+    program.file("explained/s.disks", "base 2048\ncow 16\n")
+    program.file("explained/paths", "cow %s\n" % os.path.join(samples(explain.top), "snap.store"))
+    got = explain.run(["map", "table", "s.table", "s.disks", "--paths", "paths"])
+    tally.tells("a store with other chunks", got, out="allowed: images of all disks of the stores of snapshots, whose chunks")
     tally.tells("a store without paths", explain.run([*words, "--paths", "nowhere"]), out="dmremap: paths: read\n")
 
 
@@ -167,6 +172,9 @@ def test_ends(tally, explain, program):
     got = explain.run(["map", "lvm", "vg0.backup", "R vg0-lv0 8000 16"], asked=wrong)
     why = b"explain: R vg0-lv0 8000 16: the levels don't make dmremap's answer together"
     tally.tells("levels that don't make the answer", got, 1, "", why)
+    got = explain.run(["map", "lvm", "vg0.backup", "R", "vg0-lv0", "0", "8"])
+    tally.tells("a request without quotes", got, 2, "", "explain: put each request in quotes\n")
+    tally.tells("empty metadata", explain.run(["check", "lvm", "empty"]), out="\nwhy: A value is wrong. In metadata: ")
     got = explain.run(["map", "lvm", "vgm.backup"], stdout=FULL_OUTPUT.fileno())
     tally.same("an explanation to a full output", got, 5, "", TOOL + " explain: standard output: No space left on device\n")
     got = explain.run(["map", "table", "esc.table", "disks"])

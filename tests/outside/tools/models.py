@@ -498,6 +498,11 @@ def test_saving(tally, pile):
     got = pile.call("save", "vg0/home", "out", "./table", "--fresh")
     tally.tells("a word of the other form", got, 2, err="--fresh is for FORMAT FILE")
     tally.tells("an image that isn't there", pile.call("scan", "nowhere"), 1, err="nowhere: No such file or directory")
+    for part in "table:1", "table?offset=0&length=512":
+        got, why = pile.call("scan", part), ": No such file or directory: give table, whose partitions are found\n"
+        tally.tells("a partition in place of its image", got, 1, err=part + why)
+    got = pile.call("scan", "nowhere:1")
+    tally.tells("one of no image", got, 1, err="nowhere:1: No such file or directory\n")
     once = pile.program.file("once", '#!/bin/sh\n[ "$1" = map ] || exec {0} "$@"\nhead -n 1 | {0} "$@"\n'.format(pile.program.path))
     os.chmod(once, 0o755)
     pile.put("one", disk("a", A, text("vg0", "g", 4, "a", *(volume(name, name[0], linear(0, 5, ("pv0", 3)), segment(5, 1, "zero")) for name in ("home", "next")))))
@@ -565,6 +570,7 @@ def test_read(tally, pile):
         told = b"".join(iter(lambda: reading(here), b""))
         os.close(here)
         is_told = (b"read by dmremap, proved" in told) == (name.startswith("a plain"))
+        is_told = is_told and (b"no map was given" in told) == ("--map" not in more)
         tally.holds("what is read of " + name, got.status == 0 and pile.read("out") == wanted and is_told, (got.status, told))
         pile.remove("out", *["out.map"] * ("--resume" in more))
     pile.hold(images)

@@ -251,6 +251,7 @@ def test_refusals(tally, program, top):
     rows = [
         ("there", [], 1, "%s: it is there already: give another name, or remove it first" % disks.target("there")),
         ("link", [], 1, "%s: it is there already: give another name, or remove it first" % disks.target("link")),
+        ("/dev/full", [], 1, "/dev/full: it is a device or a pipe: give the name of a new file"),
         ("no/where", [], 5, "%s: No such file or directory" % disks.target("no/where")),
         ("new", ["--resume", program.file("save/m", "x\n")], 1, "%s:1: not a map of ddrescue: give another file as --resume" % disks.target("m")),
         ("new", ["--resume", program.file("save/m2", own + "0x0 ?\n0x0 0x200 +\n")], 1, "%s: a map of another file than one of 24576 bytes: %s" % (disks.target("m2"), new)),
@@ -284,7 +285,7 @@ def test_refusals(tally, program, top):
     tally.same("saving without DISKS", got, 2, "", "usage: VOLUME TARGET FORMAT FILE [DISKS]\n" + said % "give DISKS, or leave it out with lvm")
     for name, words, status, message in rows:
         tally.same("saving as %s with %s" % (name, words), disks.save(top, name, *words), status, "", said % message)
-        tally.holds("what is left of " + name, name == "there" or not os.path.exists(disks.target(name)), "it is there")
+        tally.holds("what is left of " + name, name in ("there", "/dev/full") or not os.path.exists(disks.target(name)), "it is there")
     tally.holds("what is behind the link", not os.path.exists(disks.target("behind")), "it was made")
     got = tool_calls.call(top, ["save", *disks.words, "w", disks.target("new"), *disks.source])
     tally.same("saving no device", got, 1, "", said % "%s: no device w: `dmremap table` prints their names" % disks.source[1])

@@ -131,6 +131,8 @@ class Place:
 
     def check_new(self) -> None:
         """Refuses it where something is there."""
+        if self.is_special:
+            raise Refusal(self.shown, "it is a device or a pipe: give the name of a new file")
         if os.path.lexists(self.path):
             raise Refusal(self.shown, "it is there already: give another name, or remove it first")
 

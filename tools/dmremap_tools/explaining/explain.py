@@ -29,6 +29,8 @@ from dmremap_tools.model import loaded_stack, mapping
 EXAMPLE = "dmremap-tools explain map lvm vg0.backup 'R vg0-lv0 8000 16'"
 MOST_REQUESTS, MOST_BYTES = 16, 1 << 24
 REQUEST = re.compile(r"[RW] .*", re.S)
+# More words than a command has, as of requests that aren't in quotes.
+UNQUOTED = re.compile(r"(map|replay) .* [RW] \S+ [0-9]+ [0-9]+", re.S)
 
 
 def add_words(parser: argparse.ArgumentParser) -> None:
@@ -44,6 +46,8 @@ def run(words: argparse.Namespace) -> None:
     requests = "".join(it + "\n" for it in typed if REQUEST.fullmatch(it)).encode("utf-8", "surrogateescape")
     typed = [it for it in typed if not REQUEST.fullmatch(it)]
     plain, options = sorted_words(typed)
+    if UNQUOTED.fullmatch(" ".join(plain)):
+        raise WrongWords("put each request in quotes", "usage: " + EXAMPLE)
     # What is loaded is looked at first, so that no request is waited for where it is refused.
     printed, message = program.ask_quietly([asked, *typed])
     if not message:

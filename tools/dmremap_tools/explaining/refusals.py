@@ -21,6 +21,7 @@ LISTED = "a line is a disk, a space and a path, perhaps with ?offset=BYTES&lengt
 GROUP = "the text of one group, as vgcfgbackup writes it, with linear and striped volumes and snapshots of these"
 NAME = "a group and a volume of letters, digits and +_.-, neither of which begins with a hyphen, up to 127 bytes in all"
 HEADS = "whole images of the physical volumes of one group, in one state"
+STORES = "images of all disks of the stores of snapshots, whose chunks have as many sectors as the table says"
 # What is allowed in place of what is refused, by the word of a message about FILE or DISKS.
 ALLOWED = {
     "read": "a file that is there, and that you may read",
@@ -95,8 +96,10 @@ def explained(asked: str, message: str, form: str, texts: Dict[str, Input]) -> s
     why = program.ask_quietly([asked, "help", key])[0] if word else ""
     reason = re.match(r"(?:dmremap: .*\n)*((?:  .*\n)+)", why)
     if reason:
-        # The first sentence, or two where that is short.
+        # The first sentence, or two where that is short, of which the second is about metadata if that is refused.
         first, *others = re.split(r"(?<=[^.])\. (?=[A-Z`])", " ".join(reason[1].split()))
+        is_text = part == "source" and form in ("lvm", "images")
+        others = [it for it in others if is_text and it.startswith("In metadata")] or others
         said.append("why: %s\n" % ". ".join([first, *others[:len(first) < SHORT]]).rstrip("."))
     allowed = allowed_in(part, word, form)
     said += [f"allowed: {allowed}\n"] * bool(allowed) + [f"more: dmremap help '{key}'\n"] * bool(reason)
@@ -127,6 +130,8 @@ def allowed_in(part: str, word: str, form: str) -> str:
         return REQUEST
     if part == "name":
         return NAME
+    if part == "store" and form in ("table", "concise"):
+        return STORES
     if part in ("disk", "store") or (part, form) == ("source", "images"):
         return HEADS
     return GROUP if (part, form) == ("source", "lvm") and word not in ("read", "long") else ALLOWED.get(word, "")

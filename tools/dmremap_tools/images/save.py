@@ -12,7 +12,8 @@ or 0 with --allow-missing. --resume MAP writes these areas as a map of ddrescue;
 broken off goes on. MAP names its volume, and can't continue another one. Give the maps of images each time.
 
 With --map IMAGE=MAP, for each image that has one, the areas that a map of ddrescue doesn't list as finished aren't
-there. What another member of an array or another leg has is taken from that.
+there. What another member of an array or another leg has is taken from that. Without a map, gaps that ddrescue left
+count as zeros.
 
 Also takes VOLUME TARGET FORMAT FILE [DISKS], with FORMAT, FILE and DISKS as for `dmremap map`. The disks that they name
 are read at their names, or where --paths says. (If an image has the name of a format, write ./table.) A snapshot is
@@ -68,6 +69,8 @@ def run(words: Namespace) -> Optional[int]:
         from dmremap_tools.model.pile import Pile
         unread = rescue_map.unread_in(words, words.images)
         is_partly = copy(words, Pile(words.images, words.program, unread).target(words.volume, not words.resume))
+        if not words.map and os.isatty(2):
+            streams.tell("no map was given (--map IMAGE=MAP): gaps that ddrescue left count as zeros")
         rescue_map.tell_unused(words, ["save", words.volume, words.target, *words.images])
     return INCOMPLETE if is_partly and not words.allow_missing else None
 

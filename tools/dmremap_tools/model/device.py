@@ -7,6 +7,7 @@ import errno
 import functools
 import itertools
 import os
+import re
 from array import array
 from typing import Any, Callable, Dict, Iterable, Iterator, List, NamedTuple, Optional, Sequence, Tuple, TypeVar
 
@@ -20,6 +21,8 @@ Run = Tuple[int, int]
 ALL = 1 << 64
 # Bytes that are read at once.
 BLOCK = 1 << 20
+# What makes the name of a partition of that of its image.
+PART_OF = re.compile(r"(:[0-9]+|\?offset=[0-9]+&length=[0-9]+)$")
 # At how many places two devices are compared, how many bytes of each, and a sector of more values says something.
 COMPARED, COMPARED_AT_ONCE, SAYING = 256, 4096, 4
 
@@ -268,7 +271,10 @@ class Image(Device):
             written.note_input(descriptor)
             self._file = open(descriptor, "rb", buffering=0)
         except OSError as fault:
-            raise Refusal(name, streams.why(fault))
+            whole = PART_OF.sub("", path)
+            is_part = whole != path and os.path.exists(whole) and not os.path.lexists(path)
+            also = f": give {quoting.shown(whole)}, whose partitions are found" * is_part
+            raise Refusal(name, streams.why(fault) + also)
         self.bytes, self.other_form = disk_image.length_of(self._file, name), disk_image.form_of(descriptor)
         super().__init__(name, self.bytes // SECTOR * SECTOR)
         self._unread = [(*run, Unread(self, run)) for run in unread]
