@@ -54,7 +54,7 @@ IsNotBegun faults.Memory of = Unit {0}
 IsNotBegun faults.NotTop of = ⊥
 IsNotBegun faults.Stopped of = ⊥
 
--- a request was answered with these runs, and added to the accepted ones. Each answer of a read is the value in the device's row, or an error. There is no error if the stack
+-- a request was answered with these runs, and added to the accepted ones. For a read, the answer of each sector is its value in the device's row, or an error. There is no error if the stack
 -- can't lose anything, no snapshot was lost at the start, and the read ends within the device
 pub record IsAnswered (old new : Replaying) (request : Asked) (runs : List ValueRun) : Type 0 where
   pub answers : AreRunsOf (length old.stack.disks) (asked_answers old.stack (world_after old.stack old.start old.asked) request) runs

@@ -1,7 +1,7 @@
 //! The values that were stored in the sectors of a disk.
 //!
-//! A map has the ranges by their first sectors. Ranges don't overlap, so of those that begin before a sector only the
-//! last can contain it, and one look-up finds that one. A range that continues the one before is joined to it.
+//! A map has the ranges, keyed by first sector. They don't overlap, so only the last one that begins at or before a
+//! sector can contain it, and one look-up finds it. A range that continues the one before is joined to it.
 
 ghost use Rattle.dm_replay.specs.Prelude.{ℕ, None, [], OnOk, IfSome, AreFirst, AreApart, Has, IsBare, IsCleared, IsCut, IsFirstFrom, IsLastBefore, IsRoomMade, KeepsCuts, KeepsStored, NoneFrom, Shows, Stored, held, spanned, stored_in};
 ghost use Rattle.std.specs.Prelude.{◌≡◌, ◌+◌, ◌<◌, ◌≤◌, ◌^◌};

@@ -121,7 +121,7 @@ IsAlwaysFound stack = (zeros : Held) (old new : Moment Held) → IsTidy stack �
 abbrev pub IsAlwaysExact : Description → Type 0
 IsAlwaysExact stack = (zeros : Held) (moment : Moment Held) → IsAmple stack → IsFound zeros stack moment → ((device : ℕ) → IsLostInStore stack moment.values device → ⊥) → AreExact zeros stack moment.state moment.values moment.rows
 
--- each moment in the list is one after a restart from the moment before it
+-- each moment in the list is a possible result of a restart after the one before it
 unfoldable pub AreRestarts : (zeros : Held) → Description → Moment Held → List (Moment Held) → Type 0
 AreRestarts zeros stack old [] = Unit {0}
 AreRestarts zeros stack old (new ∷ later) = IsRestart zeros stack old new × AreRestarts zeros stack new later

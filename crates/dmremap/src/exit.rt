@@ -33,7 +33,7 @@ pub(crate) enum Refusal {
     Earlier(EarlierFault),
     /// The name can't be built.
     Name(NameFault),
-    /// The name to split is not one that any parts build.
+    /// No parts would build the name to be split.
     Split,
     /// `replay` refused the stack, because two of its claims clash.
     Untidy,

@@ -30,7 +30,7 @@ pub enum Source<'a> {
         file: &'a str,
         disks: Option<&'a str>,
     },
-    /// A list of the images of a volume group's disks, whose heads describe the group.
+    /// A list of images of a volume group's disks: the metadata at the front of each describes the group.
     Images {
         list: &'a str,
     },

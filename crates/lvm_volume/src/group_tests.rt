@@ -315,7 +315,7 @@ static OF_OWNED: [(usize, &str, Result<&str, OwnedFault>); 7] = [
     ),
 ];
 
-/// Asserts the result of reading a text if there are images with these ids.
+/// Asserts what reading a text gives when images with these ids are present.
 fn check_owned(
     rt: &impl Abort,
     alloc: Global,

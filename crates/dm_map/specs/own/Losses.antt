@@ -60,7 +60,7 @@ pub record IsLosing (stack : Description) (state : State) (device : ℕ) (one : 
   pub fresh : number_in one.chunk (taken_at state device).chunks ≡ None
   pub why : (has_place stack one.snapshot (length (taken_at state device).chunks) ≡ false) ⊎ HasError stack state one
 
--- if these due chunks are taken in this order, one of them makes the snapshot lost
+-- taking these due chunks in this order loses the snapshot at one of them
 abbrev pub AreLosing : Description → State → (device : ℕ) → List Due → Type 0
 AreLosing stack state device [] = ⊥
 AreLosing stack state device (one ∷ later) = IsLosing stack state device one ⊎ AreLosing stack (take_chunk stack one.snapshot one.device one.chunk state).state device later

@@ -23,7 +23,7 @@ pub(crate) enum NumberKind {
     Any,
     /// An integer of 1 or more.
     Positive,
-    /// A number of extents: any integer, to which the limit also applies when it is counted in sectors.
+    /// A number of extents: any integer. The limit applies to it, and also to its size in sectors.
     Extents,
 }
 
