@@ -10,6 +10,7 @@ both write a file.
 
 import os
 import random
+import resource
 import struct
 import subprocess
 import sys
@@ -45,11 +46,11 @@ def make_store(path, sectors, taken):
 
 def seconds(words, folder, output):
     """The processor time of a run."""
-    before = os.times()
+    before = resource.getrusage(resource.RUSAGE_CHILDREN)
     with open(output, "wb") as out:
         subprocess.run(words, cwd=folder, stdout=out, stderr=subprocess.DEVNULL, check=True)
-    after = os.times()
-    return after.children_user - before.children_user + after.children_system - before.children_system
+    after = resource.getrusage(resource.RUSAGE_CHILDREN)
+    return after.ru_utime - before.ru_utime + after.ru_stime - before.ru_stime
 
 
 def main():
