@@ -222,6 +222,8 @@ The first sector that can't be read ends it: all those before it were written.
                                       is lost
   dmremap: device: missing at SECTOR  PATHS doesn't name its disk
   dmremap: device: read at SECTOR     its image can't be read there
+A sector has 512 bytes. `dmremap help 'source: read'` explains that message, and
+`dmremap help 'disk: read'` that one.
 
 Exit status
   0  all bytes were written
@@ -257,7 +259,8 @@ pub(crate) const NAME_ABOUT: &str = "Prints the device-mapper name of a logical 
 pub(crate) const NAME_NOTES: &str = "\
 Hyphens join the parts, and each hyphen within a part is doubled. A part has
 letters, digits and `+_.-`, and doesn't begin with a hyphen.
-The name has at most 127 bytes.
+The name has at most 127 bytes. `dmremap help 'source: name'` explains that
+message.
 
 Exit status
   0  the name was printed

@@ -360,7 +360,7 @@ def whole_run(device: Device) -> Optional[Tuple[Image, int, int]]:
 def is_alike(one: Device, other: Device, start: int, size: int) -> bool:
     """Whether of so many bytes from one on some sectors that say something are the same in both; a few are tried."""
     for at in range(start, start + size, max(size // COMPARED, COMPARED_AT_ONCE)):
-        pair = [Lenient(each).read(at, COMPARED_AT_ONCE) for each in (one, other)]
+        pair = [Lenient(each).filled(at, COMPARED_AT_ONCE) for each in (one, other)]
         sectors = ((content[it:it + SECTOR] for content in pair) for it in range(0, COMPARED_AT_ONCE, SECTOR))
         if any(mine == its and len(set(mine)) > SAYING for mine, its in sectors):
             return True
